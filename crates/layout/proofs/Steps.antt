@@ -1,0 +1,65 @@
+-- A walk over a message, one element at a time.
+use mathlib.Core.Path.{_≡_, refl, sym, ap, _∙_}
+use mathlib.Core.Bool.{Bool, true, false, cond}
+use mathlib.Core.List.{List, [], _∷_}
+use Prim.Native.Nat.{ℕ, zero, suc, _+_, _-_, _<_, _≤_}
+use native.Mathlib.Omega.{arith}
+use lib.ListN.{length, getD, take, drop}
+use lib.Dec.{ltb, eqb}
+use Rattle.std.proofs.shelf.Ways.{tells}
+use Rattle.std.proofs.shelf.Lists.{length-take, length-drop}
+use Rattle.std.specs.declared.option.Option.{Option}
+use Rattle.std.specs.declared.option.Option.the-variants.{Some, None}
+use Rattle.std.specs.declared.result.Result.{Result}
+use Rattle.std.specs.declared.result.Result.the-variants.{Ok, Err}
+use Rattle.layout.specs.declared.fault.Fault.{Fault}
+use Rattle.layout.specs.Elements.{Part, Walk, end, bad, more, onward, steps, walk, element-at, valued, past, parts, fault-in, first-of}
+
+-- a value lies within the message
+valued-past : (m : List ℕ) (at start len : ℕ) (p : Part) → start ≤ length m → valued m at start len ≡ Ok p → (p .start ≡ start) × (length (p .value) ≡ len) × (start + len ≤ length m)
+valued-past m at start len p s h = grind (arith, tells, length-take, length-drop)
+
+-- an element ends past its place, and within the message
+pub past-place : (m : List ℕ) (at : ℕ) (p : Part) → element-at m at ≡ Ok p → (at < past p) × (past p ≤ length m)
+past-place m at p h = grind (arith, tells, valued-past)
+
+pub cond-same : {X : Type 0} (b : Bool) (x y z : X) → (b ≡ true → x ≡ y) → cond b x z ≡ cond b y z
+cond-same true x y z h = h refl
+cond-same false x y z h = refl
+
+pub onward-same : (r : Result Part Fault) (f g : Part → Walk) → ((p : Part) → r ≡ Ok p → f p ≡ g p) → onward r f ≡ onward r g
+onward-same (Ok p) f g h = ap (more p) (h p refl)
+onward-same (Err x) f g h = refl
+
+-- how many steps are allowed does not matter where they suffice
+steps-same : (k j : ℕ) (m : List ℕ) (at : ℕ) → length m ≤ at + k → length m ≤ at + j → steps k m at ≡ steps j m at
+steps-same zero zero m at p q = refl
+steps-same zero (suc j) m at p q = let f : ltb at (length m) ≡ false = grind (arith, tells) in rw f
+steps-same (suc k) zero m at p q = let f : ltb at (length m) ≡ false = grind (arith, tells) in rw f
+steps-same (suc k) (suc j) m at p q =
+    cond-same (ltb at (length m)) _ _ end
+    (λ _. onward-same (element-at m at) _ _ (λ e h. let n = past-place m at e h in steps-same k j m (past e) (omega arith) (omega arith)))
+
+pub walk-end : (m : List ℕ) (at : ℕ) → length m ≤ at → walk m at ≡ end
+unfolding walk
+walk-end m at h = steps-same (length m - at) zero m at (omega arith) (omega arith)
+
+pub walk-more : (m : List ℕ) (at : ℕ) → at < length m → walk m at ≡ onward (element-at m at) (λ p. walk m (past p))
+unfolding walk
+walk-more m at h =
+    let t : ltb at (length m) ≡ true = grind (arith, tells) in
+    steps-same (length m - at) (suc (length m - at)) m at (omega arith) (omega arith)
+    ∙ rw t (onward-same (element-at m at) _ _ (λ e q. let n = past-place m at e q in steps-same (length m - at) (length m - past e) m (past e) (omega arith) (omega arith)))
+
+-- the walk where what stands at `at` is known
+pub walk-ok : (m : List ℕ) (at : ℕ) (p : Part) → at < length m → element-at m at ≡ Ok p → walk m at ≡ more p (walk m (past p))
+walk-ok m at p h q = walk-more m at h ∙ ap (λ (v : Result Part Fault). onward v (λ e. walk m (past e))) q
+
+pub walk-bad : (m : List ℕ) (at : ℕ) (x : Fault) → at < length m → element-at m at ≡ Err x → walk m at ≡ bad x
+walk-bad m at x h q = walk-more m at h ∙ ap (λ (v : Result Part Fault). onward v (λ e. walk m (past e))) q
+
+pub first-here : (id : ℕ) (p : Part) (ps : List Part) → p .id ≡ id → first-of id (p ∷ ps) ≡ Some p
+first-here id p ps q = let t : eqb (p .id) id ≡ true = grind (arith, tells) in rw t
+
+pub first-later : (id : ℕ) (p : Part) (ps : List Part) → (p .id ≡ id → ⊥) → first-of id (p ∷ ps) ≡ first-of id ps
+first-later id p ps q = let t : eqb (p .id) id ≡ false = grind (arith, tells) in rw t

@@ -1,0 +1,29 @@
+-- The number, the place and the element of each refusal.
+use Prim.Native.Nat.{ℕ}
+use Rattle.layout.specs.declared.fault.Fault.{Fault}
+use Rattle.layout.specs.declared.fault.Fault.the-variants.{Size, Indicator, Discriminator, Unheard, CutShort, Overlong, Missing, Malformed, OutOfBounds, WrongState, Excluded, NoPlace}
+
+pub record Refusal : Type 0 where
+  pub number : ℕ
+  pub place : ℕ
+  pub element : ℕ
+
+abbrev plain : ℕ → ℕ → Refusal
+plain n p = record { number = n; place = p; element = 0 }
+
+abbrev at-element : ℕ → ℕ → ℕ → Refusal
+at-element n p e = record { number = n; place = p; element = e }
+
+abbrev pub refusal : Fault → Refusal
+refusal Size = plain 1 0
+refusal Indicator = plain 1 0
+refusal Discriminator = plain 2 2
+refusal Unheard = plain 2 3
+refusal (CutShort p e) = at-element 3 p e
+refusal (Overlong p e) = at-element 3 p e
+refusal (Missing p e) = at-element 4 p e
+refusal (Malformed p e) = at-element 5 p e
+refusal OutOfBounds = plain 6 0
+refusal WrongState = plain 7 0
+refusal Excluded = plain 8 0
+refusal NoPlace = plain 9 0

@@ -1,0 +1,5 @@
+pub mod Bounds
+pub mod Forms
+pub mod Reading
+pub mod Types
+pub mod Values

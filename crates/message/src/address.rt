@@ -1,0 +1,29 @@
+//! Addresses of gateways and controllers.
+
+ghost use mathlib.Core.Path.{_≡_};
+ghost use Rattle.std.specs.Orderings.{Decides};
+ghost use Rattle.message.specs.Values.{coded};
+use crate::name::Name;
+use crate::octets::same_octets;
+
+/// An address: an IP address of either version, or a name.
+#[derive(Clone, Copy)]
+pub enum Address {
+    V4([u8; 4]),
+    V6([u8; 16]),
+    Named(Name),
+}
+
+impl Address {
+    /// Whether two addresses are the same, in form and octets.
+    pub fn same(&self, other: &Address) -> bool
+        ensures { λ r. ⌜ Decides r (coded (now (self .entry)) ≡ coded (now (other .entry))) ⌝ }
+    {
+        match (self, other) {
+            (Address::V4(a), Address::V4(b)) => same_octets(a, b),
+            (Address::V6(a), Address::V6(b)) => same_octets(a, b),
+            (Address::Named(a), Address::Named(b)) => same_octets(a.octets(), b.octets()),
+            _ => false,
+        }
+    }
+}

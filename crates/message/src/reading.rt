@@ -1,0 +1,164 @@
+//! Reading a message that is heard.
+
+ghost use mathlib.Core.Path.{_≡_};
+ghost use lib.ListN.{length};
+ghost use Rattle.std.specs.Options.{mapped};
+ghost use Rattle.std.specs.Results.{Cases};
+ghost use Rattle.std.specs.Slices.{found};
+ghost use Rattle.std.specs.declared.option.Option.the-variants.{Some, None};
+ghost use Rattle.layout.specs.Elements.{seen};
+ghost use Rattle.message.specs.Reading.{first, number-in, number-if, address-in, needed-fault, used-fault, address-fault, uses-fault, read-fault, Rejects, Reads, Says};
+ghost use Rattle.message.specs.Types.{uses};
+ghost use Rattle.message.specs.Values.{coded};
+use crate::address::Address;
+use layout::element::Element;
+use layout::elements::Elements;
+use layout::fault::Fault;
+use crate::form::Form;
+use crate::heard::Heard;
+use crate::heard::Rejection;
+use layout::apart::check_elements;
+use layout::apart::check_header;
+use crate::types::HeardType;
+use crate::types::heard_type;
+use crate::value::ip_of;
+use crate::value::l3_of;
+use crate::value::name_of;
+use crate::value::octet_of;
+use crate::value::pair_of;
+
+// The element of a message that counts, if it is there.
+fn find(message: &[u8], id: u8) -> Option<Element<'_>>
+    ensures finds { λ r. ⌜ mapped seen r ≡ first (now (message .entry)) id ⌝ }
+    ensures named { λ r. ⌜ found r (λ e. e .id ≡ id) ⌝ }
+{
+    let elements = Elements::of(message);
+    elements.find(id)
+}
+
+// The refusal of a message in which an element is absent that it needs.
+fn missing(message: &[u8], id: u8) -> Fault
+    ensures { λ r. ⌜ r ≡ Fault.Missing (length (now (message .entry))) id ⌝ }
+{
+    Fault::Missing { place: message.len(), element: id }
+}
+
+// A needed number of one octet.
+fn octet_in(message: &[u8], id: u8) -> Result<u8, Fault>
+    ensures { λ r. ⌜ Cases r (λ n. (needed-fault (Form.Octets 1 1) (now (message .entry)) id (first (now (message .entry)) id) ≡ None) × (number-in (now (message .entry)) id ≡ n)) (λ f. needed-fault (Form.Octets 1 1) (now (message .entry)) id (first (now (message .entry)) id) ≡ Some f) ⌝ }
+{
+    match find(message, id) {
+        Some(element) => octet_of(element),
+        None => Err(missing(message, id)),
+    }
+}
+
+// A needed number of two octets.
+fn pair_in(message: &[u8], id: u8) -> Result<u16, Fault>
+    ensures { λ r. ⌜ Cases r (λ n. (needed-fault (Form.Octets 2 2) (now (message .entry)) id (first (now (message .entry)) id) ≡ None) × (number-in (now (message .entry)) id ≡ n)) (λ f. needed-fault (Form.Octets 2 2) (now (message .entry)) id (first (now (message .entry)) id) ≡ Some f) ⌝ }
+{
+    match find(message, id) {
+        Some(element) => pair_of(element),
+        None => Err(missing(message, id)),
+    }
+}
+
+// A number of one octet that may be absent.
+fn octet_if(message: &[u8], id: u8) -> Result<Option<u8>, Fault>
+    ensures { λ r. ⌜ Cases r (λ n. (used-fault (Form.Octets 1 1) id (first (now (message .entry)) id) ≡ None) × (number-if (now (message .entry)) id ≡ n)) (λ f. used-fault (Form.Octets 1 1) id (first (now (message .entry)) id) ≡ Some f) ⌝ }
+{
+    match find(message, id) {
+        Some(element) => Ok(Some(octet_of(element)?)),
+        None => Ok(None),
+    }
+}
+
+// A number of two octets that may be absent.
+fn pair_if(message: &[u8], id: u8) -> Result<Option<u16>, Fault>
+    ensures { λ r. ⌜ Cases r (λ n. (used-fault (Form.Octets 2 2) id (first (now (message .entry)) id) ≡ None) × (number-if (now (message .entry)) id ≡ n)) (λ f. used-fault (Form.Octets 2 2) id (first (now (message .entry)) id) ≡ Some f) ⌝ }
+{
+    match find(message, id) {
+        Some(element) => Ok(Some(pair_of(element)?)),
+        None => Ok(None),
+    }
+}
+
+// A needed address, in the IP element or, where that is absent, in the name's.
+fn address(message: &[u8], ip_id: u8, name_id: u8) -> Result<Address, Fault>
+    ensures { λ r. ⌜ Cases r (λ a. (address-fault (now (message .entry)) «ip_id» «name_id» (first (now (message .entry)) «ip_id») (first (now (message .entry)) «name_id») ≡ None) × (address-in (now (message .entry)) «ip_id» «name_id» ≡ coded a)) (λ f. address-fault (now (message .entry)) «ip_id» «name_id» (first (now (message .entry)) «ip_id») (first (now (message .entry)) «name_id») ≡ Some f) ⌝ }
+{
+    match find(message, ip_id) {
+        Some(element) => ip_of(element),
+        None => match find(message, name_id) {
+            Some(element) => name_of(element),
+            None => Err(missing(message, ip_id)),
+        },
+    }
+}
+
+fn read_accept(message: &[u8]) -> Result<Heard, Fault>
+    ensures { λ r. ⌜ Reads (now (message .entry)) HeardType.RegisterAccept r ⌝ }
+{
+    let tu3906 = pair_in(message, 22)?;
+    let indicator = octet_if(message, 67)?;
+    Ok(Heard::RegisterAccept { tu3906, indicator })
+}
+
+fn read_redirect(message: &[u8]) -> Result<Heard, Fault>
+    ensures { λ r. ⌜ Reads (now (message .entry)) HeardType.RegisterRedirect r ⌝ }
+{
+    let gateway = address(message, 9, 10)?;
+    let controller = address(message, 97, 98)?;
+    let port = pair_if(message, 103)?;
+    Ok(Heard::RegisterRedirect { gateway, controller, port })
+}
+
+// The cause of a REGISTER REJECT or a DEREGISTER, and with cause 0 the wait.
+fn read_rejection(message: &[u8]) -> Result<Rejection, Fault>
+    ensures { λ r. ⌜ Cases r (λ x. (uses-fault (now (message .entry)) (uses HeardType.RegisterReject) ≡ None) × Rejects (now (message .entry)) x) (λ f. uses-fault (now (message .entry)) (uses HeardType.RegisterReject) ≡ Some f) ⌝ }
+{
+    let cause = octet_in(message, 21)?;
+    if cause != 0 {
+        return Ok(Rejection::Cause(cause));
+    }
+    let tu3907 = pair_in(message, 16)?;
+    Ok(Rejection::Congestion { tu3907 })
+}
+
+fn read_downlink(message: &[u8]) -> Result<Heard, Fault>
+    ensures { λ r. ⌜ Reads (now (message .entry)) HeardType.DownlinkDirectTransfer r ⌝ }
+{
+    match find(message, 26) {
+        Some(element) => {
+            let (start, len) = l3_of(element)?;
+            Ok(Heard::DownlinkDirectTransfer { start, len })
+        }
+        None => Err(missing(message, 26)),
+    }
+}
+
+// The values of a message of a type, each checked as it is used.
+fn read_values(message: &[u8], heard: HeardType) -> Result<Heard, Fault>
+    ensures { λ r. ⌜ Reads (now (message .entry)) heard r ⌝ }
+{
+    match heard {
+        HeardType::RegisterAccept => read_accept(message),
+        HeardType::RegisterRedirect => read_redirect(message),
+        HeardType::RegisterReject => Ok(Heard::RegisterReject(read_rejection(message)?)),
+        HeardType::Deregister => Ok(Heard::Deregister(read_rejection(message)?)),
+        HeardType::Release => Ok(Heard::Release { cause: octet_in(message, 29)? }),
+        HeardType::DownlinkDirectTransfer => read_downlink(message),
+        HeardType::RequestAccept => Ok(Heard::RequestAccept),
+        HeardType::RequestReject => Ok(Heard::RequestReject { cause: octet_in(message, 29)? }),
+    }
+}
+
+/// Reads a message that is heard.
+pub fn read(message: &[u8]) -> Result<Heard, Fault>
+    ensures { λ r. ⌜ Cases r (λ h. (read-fault (now (message .entry)) ≡ None) × Says (now (message .entry)) h) (λ f. read-fault (now (message .entry)) ≡ Some f) ⌝ }
+{
+    check_header(message)?;
+    let heard = heard_type(message[2], message[3])?;
+    check_elements(message)?;
+    read_values(message, heard)
+}

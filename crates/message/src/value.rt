@@ -1,0 +1,96 @@
+//! The values of elements, read where they stand.
+
+ghost use mathlib.Core.Path.{_≡_};
+ghost use mathlib.Core.List.{_∷_};
+ghost use lib.ListN.{length};
+ghost use Rattle.std.specs.Options.{isSome};
+ghost use Rattle.std.specs.Results.{Cases};
+ghost use Rattle.std.specs.Slices.{found};
+ghost use Rattle.std.specs.declared.option.Option.the-variants.{Some, None};
+ghost use Rattle.layout.specs.Elements.{seen};
+ghost use Rattle.message.specs.Forms.{is-ip};
+ghost use Rattle.message.specs.Reading.{form-fault, number};
+ghost use Rattle.message.specs.Values.{coded};
+use crate::address::Address;
+use layout::element::Element;
+use layout::fault::Fault;
+use crate::form::Form;
+use crate::name::Name;
+
+/// The refusal of an element whose value has not its form.
+fn malformed(element: Element<'_>) -> Fault
+    ensures { λ r. ⌜ r ≡ Fault.Malformed (element .entry .place) (element .entry .id) ⌝ }
+{
+    Fault::Malformed { place: element.place, element: element.id }
+}
+
+/// A number of one octet.
+pub(crate) fn octet_of(element: Element<'_>) -> Result<u8, Fault>
+    ensures { λ r. ⌜ Cases r (λ n. (form-fault (Form.Octets 1 1) (element .entry .id) (seen (element .entry)) ≡ None) × (number (now (element .entry .value)) ≡ n)) (λ f. form-fault (Form.Octets 1 1) (element .entry .id) (seen (element .entry)) ≡ Some f) ⌝ }
+{
+    match element.value {
+        [octet] => Ok(*octet),
+        _ => Err(malformed(element)),
+    }
+}
+
+/// A number of two octets.
+pub(crate) fn pair_of(element: Element<'_>) -> Result<u16, Fault>
+    ensures { λ r. ⌜ Cases r (λ n. (form-fault (Form.Octets 2 2) (element .entry .id) (seen (element .entry)) ≡ None) × (number (now (element .entry .value)) ≡ n)) (λ f. form-fault (Form.Octets 2 2) (element .entry .id) (seen (element .entry)) ≡ Some f) ⌝ }
+{
+    match element.value {
+        [high, low] => Ok(u16::from(*high) * 256 + u16::from(*low)),
+        _ => Err(malformed(element)),
+    }
+}
+
+/// The IP address that a value is, by its form and size together.
+pub(crate) fn read_ip(value: &[u8]) -> Option<Address>
+    ensures test { λ r. ⌜ isSome r ≡ is-ip (now (value .entry)) ⌝ }
+    ensures is { λ r. ⌜ found r (λ a. coded a ≡ now (value .entry)) ⌝ }
+{
+    match value {
+        [0x21, octets @ ..] if octets.len() == 4 => {
+            let mut own = [0; 4];
+            own.copy_from_slice(octets);
+            Some(Address::V4(own))
+        }
+        [0x57, octets @ ..] if octets.len() == 16 => {
+            let mut own = [0; 16];
+            own.copy_from_slice(octets);
+            Some(Address::V6(own))
+        }
+        _ => None,
+    }
+}
+
+/// The address in an IP element.
+pub(crate) fn ip_of(element: Element<'_>) -> Result<Address, Fault>
+    ensures { λ r. ⌜ Cases r (λ a. (form-fault Form.Ip (element .entry .id) (seen (element .entry)) ≡ None) × (coded a ≡ now (element .entry .value))) (λ f. form-fault Form.Ip (element .entry .id) (seen (element .entry)) ≡ Some f) ⌝ }
+{
+    match read_ip(element.value) {
+        Some(address) => Ok(address),
+        None => Err(malformed(element)),
+    }
+}
+
+/// The address in a name's element.
+pub(crate) fn name_of(element: Element<'_>) -> Result<Address, Fault>
+    ensures { λ r. ⌜ Cases r (λ a. (form-fault (Form.Octets 3 64) (element .entry .id) (seen (element .entry)) ≡ None) × (coded a ≡ 0 ∷ now (element .entry .value))) (λ f. form-fault (Form.Octets 3 64) (element .entry .id) (seen (element .entry)) ≡ Some f) ⌝ }
+{
+    match Name::new(element.value) {
+        Ok(name) => Ok(Address::Named(name)),
+        Err(_) => Err(malformed(element)),
+    }
+}
+
+/// The place and the length of an L3 message.
+pub(crate) fn l3_of(element: Element<'_>) -> Result<(usize, usize), Fault>
+    ensures { λ r. ⌜ Cases r (λ l. (form-fault (Form.Octets 1 251) (element .entry .id) (seen (element .entry)) ≡ None) × (l ≡ (element .entry .start, length (now (element .entry .value))))) (λ f. form-fault (Form.Octets 1 251) (element .entry .id) (seen (element .entry)) ≡ Some f) ⌝ }
+{
+    let len = element.value.len();
+    if len < 1 || len > 251 {
+        return Err(malformed(element));
+    }
+    Ok((element.start, len))
+}

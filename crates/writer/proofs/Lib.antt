@@ -1,0 +1,4 @@
+mod Closing
+mod Drafting
+mod Grown
+mod Over

@@ -1,0 +1,4 @@
+//! Messages that are written in lent memory.
+
+mod octets;
+pub mod writing;
