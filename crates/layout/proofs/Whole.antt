@@ -16,7 +16,7 @@ use Rattle.std.specs.declared.option.Option.the-variants.{Some, None}
 use Rattle.std.specs.declared.result.Result.{Result}
 use Rattle.std.specs.declared.result.Result.the-variants.{Ok, Err}
 use Rattle.layout.specs.declared.fault.Fault.{Fault}
-use Rattle.layout.specs.Elements.{Part, Walk, end, bad, more, onward, steps, walk, element-at, valued, wide, past, parts, part-octets, element-octets, size-octets, fault-in}
+use Rattle.layout.specs.Elements.{Part, Walk, end, bad, more, onward, walk-by, walk, element-at, valued, wide, past, parts, part-octets, element-octets, size-octets, fault-in}
 use Rattle.layout.proofs.Sizes.{size-small, size-wide}
 use Rattle.layout.proofs.Steps.{past-place}
 
@@ -85,13 +85,13 @@ pub element-then : (m : List ℕ) (at : ℕ) (p : Part) → Bytes m → at < len
 element-then m at p b l h =
     ⊎-elim
     (λ s. let n : at + 1 < length m = omega arith in
-          let e : part-octets (short-part m at) ++ drop (past (short-part m at)) m ≡ drop at m =
-              sized-then m (getD m at 0) at (at + 2) (getD m (at + 1) 0) _ (getD m (at + 1) 0 ∷ []) (taken-length m (at + 2) (getD m (at + 1) 0) (s .fits)) (size-small _ (s .small)) refl (two-then m at n) in
-          ap (λ (q : Part). part-octets q ++ drop (past q) m) (s .is) ∙ e)
+    let e : part-octets (short-part m at) ++ drop (past (short-part m at)) m ≡ drop at m =
+    sized-then m (getD m at 0) at (at + 2) (getD m (at + 1) 0) _ (getD m (at + 1) 0 ∷ []) (taken-length m (at + 2) (getD m (at + 1) 0) (s .fits)) (size-small _ (s .small)) refl (two-then m at n) in
+    ap (λ (q : Part). part-octets q ++ drop (past q) m) (s .is) ∙ e)
     (λ s. let n : at + 2 < length m = omega (arith, s .fits, s .large) in
-          let e : part-octets (long-part m at) ++ drop (past (long-part m at)) m ≡ drop at m =
-              sized-then m (getD m at 0) at (at + 3) (wide m (at + 1)) _ (getD m (at + 1) 0 ∷ getD m (at + 1 + 1) 0 ∷ []) (taken-length m (at + 3) (wide m (at + 1)) (s .fits)) (size-wide _ _ (b (at + 1 + 1)) (s .marked) (s .large)) refl (three-then m at n) in
-          ap (λ (q : Part). part-octets q ++ drop (past q) m) (s .is) ∙ e)
+    let e : part-octets (long-part m at) ++ drop (past (long-part m at)) m ≡ drop at m =
+    sized-then m (getD m at 0) at (at + 3) (wide m (at + 1)) _ (getD m (at + 1) 0 ∷ getD m (at + 1 + 1) 0 ∷ []) (taken-length m (at + 3) (wide m (at + 1)) (s .fits)) (size-wide _ _ (b (at + 1 + 1)) (s .marked) (s .large)) refl (three-then m at n) in
+    ap (λ (q : Part). part-octets q ++ drop (past q) m) (s .is) ∙ e)
     (ways m at p l h)
 
 abbrev together : Walk → List ℕ
@@ -106,15 +106,15 @@ cond-whole true w xs h g e = g refl h
 cond-whole false w xs h g e = e refl
 
 -- the elements from `at` on are the octets from there on
-steps-whole : (k : ℕ) (m : List ℕ) (at : ℕ) → Bytes m → length m ≤ at + k → at ≤ length m → fault-in (steps k m at) ≡ None → together (steps k m at) ≡ drop at m
-steps-whole zero m at b s l h = sym (drop-all at m (omega arith))
-steps-whole (suc k) m at b s l h =
+walk-by-whole : (k : ℕ) (m : List ℕ) (at : ℕ) → Bytes m → length m ≤ at + k → at ≤ length m → fault-in (walk-by k m at) ≡ None → together (walk-by k m at) ≡ drop at m
+walk-by-whole zero m at b s l h = sym (drop-all at m (omega arith))
+walk-by-whole (suc k) m at b s l h =
     cond-whole (ltb at (length m)) _ (drop at m) h
     (λ t g. onward-whole (element-at m at) _ (drop at m) g
-        (λ p e f. let q = past-place m at p e in
-                  ap (λ (z : List ℕ). part-octets p ++ z) (steps-whole k m (past p) b (omega arith) (omega arith) f) ∙ element-then m at p b (ltb-true _ _ t) e))
+    (λ p e f. let q = past-place m at p e in
+    ap (λ (z : List ℕ). part-octets p ++ z) (walk-by-whole k m (past p) b (omega arith) (omega arith) f) ∙ element-then m at p b (ltb-true _ _ t) e))
     (λ t. sym (drop-all at m (ltb-false _ _ t)))
 
 pub whole : (m : List ℕ) → Bytes m → 4 ≤ length m → fault-in (walk m 4) ≡ None → take 4 m ++ joined part-octets (parts (walk m 4)) ≡ m
 unfolding walk
-whole m b l h = ap (λ (z : List ℕ). take 4 m ++ z) (steps-whole (length m - 4) m 4 b (omega arith) l h) ∙ take-append-drop 4 m
+whole m b l h = ap (λ (z : List ℕ). take 4 m ++ z) (walk-by-whole (length m - 4) m 4 b (omega arith) l h) ∙ take-append-drop 4 m

@@ -2,7 +2,7 @@
 use mathlib.Core.Path.{_≡_}
 use mathlib.Core.Bool.{Bool, true, false, cond}
 use mathlib.Core.List.{List, [], _∷_, _++_}
-use Prim.Native.Nat.{ℕ, zero, suc, _+_, _-_, _*_, _/_, _%_}
+use Prim.Native.Nat.{ℕ, zero, suc, _+_, _-_, _*_, _/_, _%_, _<_, _≤_}
 use lib.ListN.{length, getD, take, drop}
 use lib.Dec.{ltb, eqb}
 use Rattle.std.specs.declared.option.Option.{Option}
@@ -70,13 +70,22 @@ onward (Ok p) f = more p (f p)
 onward (Err x) f = bad x
 
 -- at most `k` elements from `at` on
-abbrev pub steps : ℕ → List ℕ → ℕ → Walk
-steps zero m at = end
-steps (suc k) m at = cond (ltb at (length m)) (onward (element-at m at) (λ p. steps k m (past p))) end
+abbrev pub walk-by : ℕ → List ℕ → ℕ → Walk
+walk-by zero m at = end
+walk-by (suc k) m at = cond (ltb at (length m)) (onward (element-at m at) (λ p. walk-by k m (past p))) end
 
 -- the walk from `at` on: an element has an octet at least, so there are no more elements than octets
 unfoldable pub walk : List ℕ → ℕ → Walk
-walk m at = steps (length m - at) m at
+walk m at = walk-by (length m - at) m at
+
+-- one step of a walk, as code finds it
+abbrev pub Stepped : List ℕ → ℕ → Option Element → Type 0
+Stepped m at None = walk m at ≡ end
+Stepped m at (Some e) = (walk m at ≡ more (seen e) (walk m (past (seen e)))) × (at < past (seen e)) × (past (seen e) ≤ length m)
+
+abbrev pub Steps : List ℕ → ℕ → Result (Option Element) Fault → Type 0
+Steps m at (Ok o) = Stepped m at o
+Steps m at (Err f) = walk m at ≡ bad f
 
 -- the elements that a walk comes to, and the fault that it comes to
 abbrev pub parts : Walk → List Part

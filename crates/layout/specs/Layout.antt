@@ -1,7 +1,7 @@
 -- The layout of a message: two octets of length, the discriminator, the type, and then elements.
 use mathlib.Core.Bool.{cond}
-use mathlib.Core.List.{List}
-use Prim.Native.Nat.{ℕ, _+_, _*_}
+use mathlib.Core.List.{List, _∷_}
+use Prim.Native.Nat.{ℕ, _+_, _*_, _/_, _%_}
 use lib.ListN.{length, getD}
 use lib.Dec.{ltb, eqb}
 use Rattle.std.specs.declared.option.Option.{Option}
@@ -13,6 +13,10 @@ use Rattle.layout.specs.Elements.{walk, fault-in}
 -- the length indicator
 abbrev pub indicator : List ℕ → ℕ
 indicator m = getD m 0 0 * 256 + getD m 1 0
+
+-- the length indicator, which counts the octets behind it and not itself, and those octets
+abbrev pub counted : List ℕ → List ℕ
+counted xs = (length xs / 256) ∷ (length xs % 256) ∷ xs
 
 -- one check after another: the first fault counts
 abbrev pub then-check : Option Fault → Option Fault → Option Fault

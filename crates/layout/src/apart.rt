@@ -10,7 +10,7 @@ ghost use Rattle.std.specs.Vec.{made};
 ghost use Rattle.std.specs.declared.option.Option.the-variants.{Some, None};
 ghost use Rattle.layout.specs.Elements.{walk, fault-in, elements, part-octets, rest};
 ghost use Rattle.layout.specs.Layout.{header-fault, apart-fault};
-use crate::element::element_at;
+use crate::element::step_at;
 use crate::elements::Elements;
 use crate::fault::Fault;
 
@@ -35,8 +35,7 @@ pub fn check_elements(message: &[u8]) -> Result<(), Fault>
     ensures { λ r. ⌜ Cases r (λ _. fault-in (walk (now (message .entry)) 4) ≡ None) (λ f. fault-in (walk (now (message .entry)) 4) ≡ Some f) ⌝ }
 {
     let mut at = 4;
-    while at < message.len() {
-        let element = element_at(message, at)?;
+    while let Some(element) = step_at(message, at)? {
         at = element.start + element.value.len();
     }
     Ok(())

@@ -5,10 +5,10 @@ ghost use Prim.Native.Nat.{_-_, _<_, _≤_};
 ghost use lib.ListN.{length};
 ghost use denote.Ref.{now};
 ghost use Rattle.std.specs.Options.{mapped};
-ghost use Rattle.std.specs.Slices.{found};
+ghost use Rattle.std.specs.Slices.{found as where-found};
 ghost use Rattle.layout.specs.Elements.{elements, first-of, first-in, others-in, seen, rest};
 use crate::element::Element;
-use crate::element::element_at;
+use crate::element::step_at;
 
 /// The elements of a message from a place on.
 #[derive(Clone, Copy)]
@@ -28,20 +28,19 @@ impl<'a> Elements<'a> {
     /// The first element with an identifier.
     pub fn find(&self, id: u8) -> Option<Element<'a>>
         ensures finds { λ r. ⌜ mapped seen r ≡ first-of id (rest (now (self .entry))) ⌝ }
-        ensures named { λ r. ⌜ found r (λ e. e .id ≡ id) ⌝ }
+        ensures named { λ r. ⌜ where-found r (λ e. e .id ≡ id) ⌝ }
     {
         let message = self.message;
         let mut at = self.at;
-        while at < message.len() {
-            let Ok(element) = element_at(message, at) else {
-                return None;
-            };
+        let mut found = None;
+        while let Ok(Some(element)) = step_at(message, at) {
             if element.id == id {
-                return Some(element);
+                found = Some(element);
+                break; // of a repeated element the first counts
             }
             at = element.start + element.value.len();
         }
-        None
+        found
     }
 }
 
@@ -55,13 +54,7 @@ pub impl<'a> Iterator for Elements<'a> as ElementsIterator {
     ghost left = { λ s. length (s .message .now) - s .at };
 
     fn next(&mut self) -> Option<Element<'a>> {
-        let message = self.message;
-        let at = self.at;
-        if at >= message.len() {
-            return None;
-        }
-        let Ok(element) = element_at(message, at) else {
-            self.at = message.len();
+        let Ok(Some(element)) = step_at(self.message, self.at) else {
             return None;
         };
         self.at = element.start + element.value.len();

@@ -26,23 +26,23 @@ row n f = record { id = n; form = f }
 
 abbrev pub listed : List Listing
 listed =
-    row 1 (Octets 1 9) -- Mobile Identity
-    ∷ row 3 (Octets 7 7) -- AP Radio Identity: a zero, then the access point
-    ∷ row 9 Ip -- gateway's IP address
-    ∷ row 10 (Octets 3 64) -- gateway's name
-    ∷ row 11 (Octets 1 1) -- Redirection Counter
-    ∷ row 16 (Octets 2 2) -- TU3907 timer
-    ∷ row 21 (Octets 1 1) -- Register Reject Cause
-    ∷ row 22 (Octets 2 2) -- TU3906 timer
-    ∷ row 26 (Octets 1 251) -- L3 Message
-    ∷ row 29 (Octets 1 1) -- RR Cause
-    ∷ row 49 (Octets 1 1) -- SAPI ID
-    ∷ row 50 (Octets 1 1) -- Establishment Cause
-    ∷ row 67 (Octets 1 1) -- Serving GANC Table Indicator
-    ∷ row 68 (Octets 1 1) -- Registration Indicators
-    ∷ row 97 Ip -- controller's IP address
-    ∷ row 98 (Octets 3 64) -- controller's name
-    ∷ row 103 (Octets 2 2) -- GANC TCP Port
+    row 1 (Octets 1 9)  -- Mobile Identity
+    ∷ row 3 (Octets 7 7)  -- AP Radio Identity: a zero, then the access point
+    ∷ row 9 Ip  -- gateway's IP address
+    ∷ row 10 (Octets 3 64)  -- gateway's name
+    ∷ row 11 (Octets 1 1)  -- Redirection Counter
+    ∷ row 16 (Octets 2 2)  -- TU3907 timer
+    ∷ row 21 (Octets 1 1)  -- Register Reject Cause
+    ∷ row 22 (Octets 2 2)  -- TU3906 timer
+    ∷ row 26 (Octets 1 251)  -- L3 Message
+    ∷ row 29 (Octets 1 1)  -- RR Cause
+    ∷ row 49 (Octets 1 1)  -- SAPI ID
+    ∷ row 50 (Octets 1 1)  -- Establishment Cause
+    ∷ row 67 (Octets 1 1)  -- Serving GANC Table Indicator
+    ∷ row 68 (Octets 1 1)  -- Registration Indicators
+    ∷ row 97 Ip  -- controller's IP address
+    ∷ row 98 (Octets 3 64)  -- controller's name
+    ∷ row 103 (Octets 2 2)  -- GANC TCP Port
     ∷ []
 
 abbrev pub form-in : ℕ → List Listing → Form

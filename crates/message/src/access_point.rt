@@ -5,8 +5,8 @@ ghost use lib.ListN.{length};
 ghost use Rattle.std.specs.Results.{Cases};
 ghost use Rattle.std.specs.Orderings.{Decides};
 ghost use Rattle.message.specs.Values.{point};
-use layout::fault::Fault;
 use crate::octets::same_octets;
+use layout::fault::Fault;
 
 /// An access point: the six octets of its radio identity.
 #[derive(Clone, Copy)]

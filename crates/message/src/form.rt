@@ -26,7 +26,10 @@ pub fn form_of(id: u8) -> Form
         10 | 98 => Form::Octets { least: 3, most: 64 },
         11 | 21 | 29 | 49 | 50 | 67 | 68 => Form::Octets { least: 1, most: 1 },
         16 | 22 | 103 => Form::Octets { least: 2, most: 2 },
-        26 => Form::Octets { least: 1, most: 251 },
+        26 => Form::Octets {
+            least: 1,
+            most: 251,
+        },
         _ => Form::Unlisted,
     }
 }

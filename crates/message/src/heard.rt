@@ -14,13 +14,27 @@ pub enum Rejection {
 /// A message heard, with the values that it brings.
 #[derive(Clone, Copy)]
 pub enum Heard {
-    RegisterAccept { tu3906: u16, indicator: Option<u8> },
-    RegisterRedirect { gateway: Address, controller: Address, port: Option<u16> },
+    RegisterAccept {
+        tu3906: u16,
+        indicator: Option<u8>,
+    },
+    RegisterRedirect {
+        gateway: Address,
+        controller: Address,
+        port: Option<u16>,
+    },
     RegisterReject(Rejection),
     Deregister(Rejection),
-    Release { cause: u8 },
+    Release {
+        cause: u8,
+    },
     /// The place and the length of the L3 message.
-    DownlinkDirectTransfer { start: usize, len: usize },
+    DownlinkDirectTransfer {
+        start: usize,
+        len: usize,
+    },
     RequestAccept,
-    RequestReject { cause: u8 },
+    RequestReject {
+        cause: u8,
+    },
 }

@@ -8,5 +8,7 @@ pub mod identity;
 pub mod name;
 mod octets;
 pub mod reading;
+#[cfg(test)]
+mod tests;
 pub mod types;
 mod value;

@@ -11,21 +11,22 @@ ghost use Rattle.message.specs.Reading.{first, number-in, number-if, address-i
 ghost use Rattle.message.specs.Types.{uses};
 ghost use Rattle.message.specs.Values.{coded};
 use crate::address::Address;
-use layout::element::Element;
-use layout::elements::Elements;
-use layout::fault::Fault;
 use crate::form::Form;
 use crate::heard::Heard;
 use crate::heard::Rejection;
-use layout::apart::check_elements;
-use layout::apart::check_header;
 use crate::types::HeardType;
 use crate::types::heard_type;
+use crate::value::OctetValue;
+use crate::value::PairValue;
+use crate::value::Value;
 use crate::value::ip_of;
 use crate::value::l3_of;
 use crate::value::name_of;
-use crate::value::octet_of;
-use crate::value::pair_of;
+use layout::apart::check_elements;
+use layout::apart::check_header;
+use layout::element::Element;
+use layout::elements::Elements;
+use layout::fault::Fault;
 
 // The element of a message that counts, if it is there.
 fn find(message: &[u8], id: u8) -> Option<Element<'_>>
@@ -40,45 +41,28 @@ fn find(message: &[u8], id: u8) -> Option<Element<'_>>
 fn missing(message: &[u8], id: u8) -> Fault
     ensures { λ r. ⌜ r ≡ Fault.Missing (length (now (message .entry))) id ⌝ }
 {
-    Fault::Missing { place: message.len(), element: id }
+    Fault::Missing {
+        place: message.len(),
+        element: id,
+    }
 }
 
-// A needed number of one octet.
-fn octet_in(message: &[u8], id: u8) -> Result<u8, Fault>
-    ensures { λ r. ⌜ Cases r (λ n. (needed-fault (Form.Octets 1 1) (now (message .entry)) id (first (now (message .entry)) id) ≡ None) × (number-in (now (message .entry)) id ≡ n)) (λ f. needed-fault (Form.Octets 1 1) (now (message .entry)) id (first (now (message .entry)) id) ≡ Some f) ⌝ }
+// The value of a needed element.
+fn needed<V: Value>(message: &[u8], id: u8) -> Result<V, Fault>
+    ensures { λ r. ⌜ Cases r (λ v. (needed-fault form (now (message .entry)) id (first (now (message .entry)) id) ≡ None) × (held (first (now (message .entry)) id) ≡ v)) (λ f. needed-fault form (now (message .entry)) id (first (now (message .entry)) id) ≡ Some f) ⌝ }
 {
     match find(message, id) {
-        Some(element) => octet_of(element),
+        Some(element) => V::of(element),
         None => Err(missing(message, id)),
     }
 }
 
-// A needed number of two octets.
-fn pair_in(message: &[u8], id: u8) -> Result<u16, Fault>
-    ensures { λ r. ⌜ Cases r (λ n. (needed-fault (Form.Octets 2 2) (now (message .entry)) id (first (now (message .entry)) id) ≡ None) × (number-in (now (message .entry)) id ≡ n)) (λ f. needed-fault (Form.Octets 2 2) (now (message .entry)) id (first (now (message .entry)) id) ≡ Some f) ⌝ }
+// The value of an element that may be absent.
+fn used<V: Value>(message: &[u8], id: u8) -> Result<Option<V>, Fault>
+    ensures { λ r. ⌜ Cases r (λ v. (used-fault form id (first (now (message .entry)) id) ≡ None) × (mapped (λ p. held (Some p)) (first (now (message .entry)) id) ≡ v)) (λ f. used-fault form id (first (now (message .entry)) id) ≡ Some f) ⌝ }
 {
     match find(message, id) {
-        Some(element) => pair_of(element),
-        None => Err(missing(message, id)),
-    }
-}
-
-// A number of one octet that may be absent.
-fn octet_if(message: &[u8], id: u8) -> Result<Option<u8>, Fault>
-    ensures { λ r. ⌜ Cases r (λ n. (used-fault (Form.Octets 1 1) id (first (now (message .entry)) id) ≡ None) × (number-if (now (message .entry)) id ≡ n)) (λ f. used-fault (Form.Octets 1 1) id (first (now (message .entry)) id) ≡ Some f) ⌝ }
-{
-    match find(message, id) {
-        Some(element) => Ok(Some(octet_of(element)?)),
-        None => Ok(None),
-    }
-}
-
-// A number of two octets that may be absent.
-fn pair_if(message: &[u8], id: u8) -> Result<Option<u16>, Fault>
-    ensures { λ r. ⌜ Cases r (λ n. (used-fault (Form.Octets 2 2) id (first (now (message .entry)) id) ≡ None) × (number-if (now (message .entry)) id ≡ n)) (λ f. used-fault (Form.Octets 2 2) id (first (now (message .entry)) id) ≡ Some f) ⌝ }
-{
-    match find(message, id) {
-        Some(element) => Ok(Some(pair_of(element)?)),
+        Some(element) => Ok(Some(V::of(element)?)),
         None => Ok(None),
     }
 }
@@ -99,8 +83,8 @@ fn address(message: &[u8], ip_id: u8, name_id: u8) -> Result<Address, Fault>
 fn read_accept(message: &[u8]) -> Result<Heard, Fault>
     ensures { λ r. ⌜ Reads (now (message .entry)) HeardType.RegisterAccept r ⌝ }
 {
-    let tu3906 = pair_in(message, 22)?;
-    let indicator = octet_if(message, 67)?;
+    let tu3906 = needed::<u16>(message, 22)?;
+    let indicator = used::<u8>(message, 67)?;
     Ok(Heard::RegisterAccept { tu3906, indicator })
 }
 
@@ -109,19 +93,23 @@ fn read_redirect(message: &[u8]) -> Result<Heard, Fault>
 {
     let gateway = address(message, 9, 10)?;
     let controller = address(message, 97, 98)?;
-    let port = pair_if(message, 103)?;
-    Ok(Heard::RegisterRedirect { gateway, controller, port })
+    let port = used::<u16>(message, 103)?;
+    Ok(Heard::RegisterRedirect {
+        gateway,
+        controller,
+        port,
+    })
 }
 
 // The cause of a REGISTER REJECT or a DEREGISTER, and with cause 0 the wait.
 fn read_rejection(message: &[u8]) -> Result<Rejection, Fault>
     ensures { λ r. ⌜ Cases r (λ x. (uses-fault (now (message .entry)) (uses HeardType.RegisterReject) ≡ None) × Rejects (now (message .entry)) x) (λ f. uses-fault (now (message .entry)) (uses HeardType.RegisterReject) ≡ Some f) ⌝ }
 {
-    let cause = octet_in(message, 21)?;
+    let cause = needed::<u8>(message, 21)?;
     if cause != 0 {
         return Ok(Rejection::Cause(cause));
     }
-    let tu3907 = pair_in(message, 16)?;
+    let tu3907 = needed::<u16>(message, 16)?;
     Ok(Rejection::Congestion { tu3907 })
 }
 
@@ -146,10 +134,14 @@ fn read_values(message: &[u8], heard: HeardType) -> Result<Heard, Fault>
         HeardType::RegisterRedirect => read_redirect(message),
         HeardType::RegisterReject => Ok(Heard::RegisterReject(read_rejection(message)?)),
         HeardType::Deregister => Ok(Heard::Deregister(read_rejection(message)?)),
-        HeardType::Release => Ok(Heard::Release { cause: octet_in(message, 29)? }),
+        HeardType::Release => Ok(Heard::Release {
+            cause: needed::<u8>(message, 29)?,
+        }),
         HeardType::DownlinkDirectTransfer => read_downlink(message),
         HeardType::RequestAccept => Ok(Heard::RequestAccept),
-        HeardType::RequestReject => Ok(Heard::RequestReject { cause: octet_in(message, 29)? }),
+        HeardType::RequestReject => Ok(Heard::RequestReject {
+            cause: needed::<u8>(message, 29)?,
+        }),
     }
 }
 

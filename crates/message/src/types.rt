@@ -23,7 +23,11 @@ pub enum HeardType {
 pub fn discriminator(type_octet: u8) -> u8
     ensures { λ r. ⌜ r ≡ discriminator-of «type_octet» ⌝ }
 {
-    if type_octet < 64 || type_octet == 116 { 0 } else { 1 }
+    if type_octet < 64 || type_octet == 116 {
+        0
+    } else {
+        1
+    }
 }
 
 /// The type that is heard with these octets.

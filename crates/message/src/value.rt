@@ -7,40 +7,66 @@ ghost use Rattle.std.specs.Options.{isSome};
 ghost use Rattle.std.specs.Results.{Cases};
 ghost use Rattle.std.specs.Slices.{found};
 ghost use Rattle.std.specs.declared.option.Option.the-variants.{Some, None};
-ghost use Rattle.layout.specs.Elements.{seen};
+ghost use Rattle.std.specs.declared.option.Option.{Option};
+ghost use Rattle.layout.specs.Elements.{Part, seen};
+ghost use Rattle.message.specs.declared.form.Form.{Form};
+ghost use Rattle.message.specs.declared.form.Form.the-variants.{Octets, Ip};
 ghost use Rattle.message.specs.Forms.{is-ip};
-ghost use Rattle.message.specs.Reading.{form-fault, number};
+ghost use Rattle.message.specs.Reading.{form-fault, number, value-of};
 ghost use Rattle.message.specs.Values.{coded};
 use crate::address::Address;
+use crate::name::Name;
 use layout::element::Element;
 use layout::fault::Fault;
-use crate::form::Form;
-use crate::name::Name;
 
 /// The refusal of an element whose value has not its form.
 fn malformed(element: Element<'_>) -> Fault
     ensures { λ r. ⌜ r ≡ Fault.Malformed (element .entry .place) (element .entry .id) ⌝ }
 {
-    Fault::Malformed { place: element.place, element: element.id }
+    Fault::Malformed {
+        place: element.place,
+        element: element.id,
+    }
+}
+
+/// A value that an element can hold.
+pub(crate) trait Value: Sized {
+    /// The form that the value has to have.
+    ghost form: { Form };
+
+    /// The value of an element that is there.
+    ghost held: { Option Part → Self };
+
+    /// The value of an element, or the refusal of one that has not the form.
+    fn of(element: Element<'_>) -> Result<Self, Fault>
+        ensures { λ r. ⌜ Cases r (λ v. (form-fault form (element .entry .id) (seen (element .entry)) ≡ None) × (held (Some (seen (element .entry))) ≡ v)) (λ f. form-fault form (element .entry .id) (seen (element .entry)) ≡ Some f) ⌝ };
 }
 
 /// A number of one octet.
-pub(crate) fn octet_of(element: Element<'_>) -> Result<u8, Fault>
-    ensures { λ r. ⌜ Cases r (λ n. (form-fault (Form.Octets 1 1) (element .entry .id) (seen (element .entry)) ≡ None) × (number (now (element .entry .value)) ≡ n)) (λ f. form-fault (Form.Octets 1 1) (element .entry .id) (seen (element .entry)) ≡ Some f) ⌝ }
-{
-    match element.value {
-        [octet] => Ok(*octet),
-        _ => Err(malformed(element)),
+pub(crate) impl Value for u8 as OctetValue {
+    ghost form = { Octets 1 1 };
+
+    ghost held = { λ o. number (value-of o) };
+
+    fn of(element: Element<'_>) -> Result<u8, Fault> {
+        match element.value {
+            [octet] => Ok(*octet),
+            _ => Err(malformed(element)),
+        }
     }
 }
 
 /// A number of two octets.
-pub(crate) fn pair_of(element: Element<'_>) -> Result<u16, Fault>
-    ensures { λ r. ⌜ Cases r (λ n. (form-fault (Form.Octets 2 2) (element .entry .id) (seen (element .entry)) ≡ None) × (number (now (element .entry .value)) ≡ n)) (λ f. form-fault (Form.Octets 2 2) (element .entry .id) (seen (element .entry)) ≡ Some f) ⌝ }
-{
-    match element.value {
-        [high, low] => Ok(u16::from(*high) * 256 + u16::from(*low)),
-        _ => Err(malformed(element)),
+pub(crate) impl Value for u16 as PairValue {
+    ghost form = { Octets 2 2 };
+
+    ghost held = { λ o. number (value-of o) };
+
+    fn of(element: Element<'_>) -> Result<u16, Fault> {
+        match element.value {
+            [high, low] => Ok(u16::from(*high) * 256 + u16::from(*low)),
+            _ => Err(malformed(element)),
+        }
     }
 }
 
@@ -66,7 +92,7 @@ pub(crate) fn read_ip(value: &[u8]) -> Option<Address>
 
 /// The address in an IP element.
 pub(crate) fn ip_of(element: Element<'_>) -> Result<Address, Fault>
-    ensures { λ r. ⌜ Cases r (λ a. (form-fault Form.Ip (element .entry .id) (seen (element .entry)) ≡ None) × (coded a ≡ now (element .entry .value))) (λ f. form-fault Form.Ip (element .entry .id) (seen (element .entry)) ≡ Some f) ⌝ }
+    ensures { λ r. ⌜ Cases r (λ a. (form-fault Ip (element .entry .id) (seen (element .entry)) ≡ None) × (coded a ≡ now (element .entry .value))) (λ f. form-fault Ip (element .entry .id) (seen (element .entry)) ≡ Some f) ⌝ }
 {
     match read_ip(element.value) {
         Some(address) => Ok(address),
@@ -76,7 +102,7 @@ pub(crate) fn ip_of(element: Element<'_>) -> Result<Address, Fault>
 
 /// The address in a name's element.
 pub(crate) fn name_of(element: Element<'_>) -> Result<Address, Fault>
-    ensures { λ r. ⌜ Cases r (λ a. (form-fault (Form.Octets 3 64) (element .entry .id) (seen (element .entry)) ≡ None) × (coded a ≡ 0 ∷ now (element .entry .value))) (λ f. form-fault (Form.Octets 3 64) (element .entry .id) (seen (element .entry)) ≡ Some f) ⌝ }
+    ensures { λ r. ⌜ Cases r (λ a. (form-fault (Octets 3 64) (element .entry .id) (seen (element .entry)) ≡ None) × (coded a ≡ 0 ∷ now (element .entry .value))) (λ f. form-fault (Octets 3 64) (element .entry .id) (seen (element .entry)) ≡ Some f) ⌝ }
 {
     match Name::new(element.value) {
         Ok(name) => Ok(Address::Named(name)),
@@ -86,7 +112,7 @@ pub(crate) fn name_of(element: Element<'_>) -> Result<Address, Fault>
 
 /// The place and the length of an L3 message.
 pub(crate) fn l3_of(element: Element<'_>) -> Result<(usize, usize), Fault>
-    ensures { λ r. ⌜ Cases r (λ l. (form-fault (Form.Octets 1 251) (element .entry .id) (seen (element .entry)) ≡ None) × (l ≡ (element .entry .start, length (now (element .entry .value))))) (λ f. form-fault (Form.Octets 1 251) (element .entry .id) (seen (element .entry)) ≡ Some f) ⌝ }
+    ensures { λ r. ⌜ Cases r (λ l. (form-fault (Octets 1 251) (element .entry .id) (seen (element .entry)) ≡ None) × (l ≡ (element .entry .start, length (now (element .entry .value))))) (λ f. form-fault (Octets 1 251) (element .entry .id) (seen (element .entry)) ≡ Some f) ⌝ }
 {
     let len = element.value.len();
     if len < 1 || len > 251 {

@@ -8,7 +8,7 @@ use native.Mathlib.Omega.{arith}
 use borrow.Author.Needs.{needs}
 use lib.ListN.{length, getD, take, drop, set}
 use Rattle.std.proofs.shelf.Ways.{tells}
-use Rattle.std.proofs.shelf.Lists.{places, length-set, length-take-le, length-append, length-drop, getD-set-same, getD-set-other, getD-append-left, getD-take, take-at, append-assoc}
+use Rattle.std.proofs.shelf.Lists.{places, length-set, length-take-le, length-append, length-drop, getD-set-same, getD-set-other, getD-append-left, getD-take, take-at, drop-append-le, append-assoc}
 use Rattle.std.specs.Options.{isSome}
 use Rattle.std.specs.Results.{Cases}
 use Rattle.std.specs.declared.option.Option.the-variants.{Some, None}
@@ -49,6 +49,13 @@ opened-sound m t h =
     let l : 512 ≤ length (headed m t) = rw headed-len h in
     ((l, omega arith, omega arith), discriminated m t h, ap (λ w. isSome (fault-in w)) (walk-end (take 4 (headed m t)) 4 (omega (arith, four (headed m t) l))))
 
+pub opened-octets : (m : List ℕ) (t : ℕ) → 512 ≤ length m → drop 2 (take 4 (headed m t)) ≡ discriminator-of t ∷ t ∷ []
+opened-octets [] t h = absurd (omega arith)
+opened-octets (a ∷ []) t h = absurd (omega arith)
+opened-octets (a ∷ b ∷ []) t h = absurd (omega arith)
+opened-octets (a ∷ b ∷ c ∷ []) t h = absurd (omega arith)
+opened-octets (a ∷ b ∷ c ∷ d ∷ m) t h = refl
+
 -- the written octets, and behind them what was put
 take-over : (m xs : List ℕ) (n : ℕ) → n ≤ length m → take (n + length xs) (over m n xs) ≡ take n m ++ xs
 take-over m xs n h =
@@ -65,6 +72,7 @@ over-before m xs n i h l =
 
 pub record Put (m : List ℕ) (n id : ℕ) (v : List ℕ) : Type 0 where
   pub sound : Sound (over m n (element-octets id v)) (n + length (element-octets id v))
+  pub octets : drop 2 (take (n + length (element-octets id v)) (over m n (element-octets id v))) ≡ drop 2 (take n m) ++ element-octets id v
   pub more : elements (take (n + length (element-octets id v)) (over m n (element-octets id v))) ≡ elements (take n m) ++ placed n id v ∷ []
 
 -- an element that is put behind a sound message leaves it sound, with one element more
@@ -76,9 +84,10 @@ put m v n id s f =
     let g = grown (take n m) v id (omega arith) (none-from _ (s .2)) in
     let k = over-len m (element-octets id v) n (omega arith) in
     let b = over-before m (element-octets id v) n 2 (omega arith) l in
-    record
-    { sound = ((omega arith, omega arith, f), rw b (s .1), ap (λ (x : List ℕ). isSome (fault-in (walk x 4))) t ∙ ap isSome (g .whole))
-    ; more = ap elements t ∙ g .more ∙ ap (λ (k : ℕ). elements (take n m) ++ placed k id v ∷ []) d
+    record {
+      sound = ((omega arith, omega arith, f), rw b (s .1), ap (λ (x : List ℕ). isSome (fault-in (walk x 4))) t ∙ ap isSome (g .whole));
+      octets = ap (drop 2) t ∙ drop-append-le 2 (take n m) (element-octets id v) (omega arith);
+      more = ap elements t ∙ g .more ∙ ap (λ (k : ℕ). elements (take n m) ++ placed k id v ∷ []) d;
     }
 
 -- what putting an element leaves of the memory m and its length n
@@ -102,14 +111,18 @@ left-sound (Err f) m v m′ n id n′ s l = sound-as _ _ _ _ (l .3) (l .2) s
 -- an element that has its form is added, or there is no room for it
 pub left-added : {X : Type 0} (r : Result X Fault) (o p : OpenMessage) (id : ℕ) (v : List ℕ) → has-form (form-of id) v ≡ true → Left r (open-memory o) (open-len o) id v (open-memory p) (open-len p) → Cases r (λ _. Added o id v p) (λ f. (f ≡ OutOfBounds) × Unfit o id v × Unchanged o p)
 left-added (Ok x) o p id v h l =
-    record
-    { formed = h
-    ; fits = l .0
-    ; len = l .1
-    ; memory = l .2
-    ; elements =
-        ap (λ (x : List ℕ). elements (take (open-len p) x)) (l .2)
-        ∙ ap (λ (k : ℕ). elements (take k (over (open-memory o) (open-len o) (element-octets id v)))) (l .1)
-        ∙ put (open-memory o) v (open-len o) id (o .sound) (l .0) .more
+    record {
+      formed = h;
+      fits = l .0;
+      len = l .1;
+      memory = l .2;
+      octets =
+          ap (λ (x : List ℕ). drop 2 (take (open-len p) x)) (l .2)
+          ∙ ap (λ (k : ℕ). drop 2 (take k (over (open-memory o) (open-len o) (element-octets id v)))) (l .1)
+          ∙ put (open-memory o) v (open-len o) id (o .sound) (l .0) .octets;
+      elements =
+          ap (λ (x : List ℕ). elements (take (open-len p) x)) (l .2)
+          ∙ ap (λ (k : ℕ). elements (take k (over (open-memory o) (open-len o) (element-octets id v)))) (l .1)
+          ∙ put (open-memory o) v (open-len o) id (o .sound) (l .0) .more;
     }
 left-added (Err f) o p id v h l = (l .0, inr (l .1), record { len = l .2; memory = l .3 })

@@ -42,24 +42,24 @@ within : (d xs : List ℕ) (at : ℕ) (p : Part) → at < length d → element-a
 within d xs at p l h =
     ⊎-elim
     (λ s. let f = s .fits in
-          let g0 = getD-append-left d xs 0 at l in
-          let g1 = getD-append-left d xs 0 (at + 1) (omega arith) in
-          let t = front-part d xs (at + 2) (getD d (at + 1) 0) f in
-          let n = length-append d xs in
-          let a = short-at (d ++ xs) at (rw g1 (s .small)) (rw g1 (omega arith)) in
-          let q : short-part (d ++ xs) at ≡ short-part d at = cc in
-          a ∙ ap Ok (q ∙ sym (s .is)))
+    let g0 = getD-append-left d xs 0 at l in
+    let g1 = getD-append-left d xs 0 (at + 1) (omega arith) in
+    let t = front-part d xs (at + 2) (getD d (at + 1) 0) f in
+    let n = length-append d xs in
+    let a = short-at (d ++ xs) at (rw g1 (s .small)) (rw g1 (omega arith)) in
+    let q : short-part (d ++ xs) at ≡ short-part d at = cc in
+    a ∙ ap Ok (q ∙ sym (s .is)))
     (λ s. let f = s .fits in
-          let g = s .large in
-          let g0 = getD-append-left d xs 0 at l in
-          let g1 = getD-append-left d xs 0 (at + 1) (omega arith) in
-          let g2 = getD-append-left d xs 0 (at + 1 + 1) (omega arith) in
-          let w : wide (d ++ xs) (at + 1) ≡ wide d (at + 1) = cc in
-          let t = front-part d xs (at + 3) (wide d (at + 1)) f in
-          let n = length-append d xs in
-          let a = long-at (d ++ xs) at (rw g1 (s .marked)) (omega arith) (omega arith) in
-          let q : long-part (d ++ xs) at ≡ long-part d at = cc in
-          a ∙ ap Ok (q ∙ sym (s .is)))
+    let g = s .large in
+    let g0 = getD-append-left d xs 0 at l in
+    let g1 = getD-append-left d xs 0 (at + 1) (omega arith) in
+    let g2 = getD-append-left d xs 0 (at + 1 + 1) (omega arith) in
+    let w : wide (d ++ xs) (at + 1) ≡ wide d (at + 1) = cc in
+    let t = front-part d xs (at + 3) (wide d (at + 1)) f in
+    let n = length-append d xs in
+    let a = long-at (d ++ xs) at (rw g1 (s .marked)) (omega arith) (omega arith) in
+    let q : long-part (d ++ xs) at ≡ long-part d at = cc in
+    a ∙ ap Ok (q ∙ sym (s .is)))
     (ways d at p l h)
 
 -- what is left of two lists behind the first, from a place in the second on
@@ -98,15 +98,15 @@ at-end : (d v : List ℕ) (id : ℕ) → element-at (d ++ element-octets id v) (
 at-end d v id =
     ⊎-elim
     (λ h. let s = size-small (length v) h in
-          ap (λ (z : List ℕ). element-at (d ++ (id ∷ (z ++ v))) (length d)) s
-          ∙ at-end-short d v id h
-          ∙ ap (λ (z : List ℕ). Ok (record { id = id; place = length d; start = length d + (1 + length z); value = v })) (sym s))
+    ap (λ (z : List ℕ). element-at (d ++ (id ∷ (z ++ v))) (length d)) s
+    ∙ at-end-short d v id h
+    ∙ ap (λ (z : List ℕ). Ok (record { id = id; place = length d; start = length d + (1 + length z); value = v })) (sym s))
     (λ h. let s = size-large (length v) h in
-          let k : 128 + length v / 256 - 128 ≡ length v / 256 = omega arith in
-          let e : (128 + length v / 256 - 128) * 256 + length v % 256 ≡ length v = rw k (div-add-mod' (length v) 256) in
-          ap (λ (z : List ℕ). element-at (d ++ (id ∷ (z ++ v))) (length d)) s
-          ∙ at-end-long d v id (128 + length v / 256) (length v % 256) (omega arith) h e
-          ∙ ap (λ (z : List ℕ). Ok (record { id = id; place = length d; start = length d + (1 + length z); value = v })) (sym s))
+    let k : 128 + length v / 256 - 128 ≡ length v / 256 = omega arith in
+    let e : (128 + length v / 256 - 128) * 256 + length v % 256 ≡ length v = rw k (div-add-mod' (length v) 256) in
+    ap (λ (z : List ℕ). element-at (d ++ (id ∷ (z ++ v))) (length d)) s
+    ∙ at-end-long d v id (128 + length v / 256) (length v % 256) (omega arith) h e
+    ∙ ap (λ (z : List ℕ). Ok (record { id = id; place = length d; start = length d + (1 + length z); value = v })) (sym s))
     (cases-lt (length v) 128)
 
 past-end : (d v : List ℕ) (id : ℕ) → length (d ++ element-octets id v) ≡ past (placed (length d) id v)
@@ -142,15 +142,15 @@ grown-by (suc k) d v id at s l h =
     let n = past-end d v id in
     ⊎-elim
     (λ g. ⊎-elim
-        (λ r. let q = past-place d at (r .0) (r .1) in
-              let w = walk-ok d at (r .0) g (r .1) in
-              walk-ok m at (r .0) (omega arith) (within d (element-octets id v) at (r .0) g (r .1))
-              ∙ ap (more (r .0)) (grown-by k d v id (past (r .0)) (omega arith) (omega arith) (sym (ap fault-in w) ∙ h))
-              ∙ ap (λ (w : Walk). appended w (placed (length d) id v)) (sym w))
-        (λ r. let w = walk-bad d at (r .0) g (r .1) in
-              let z : Some (r .0) ≡ None = sym (ap fault-in w) ∙ h in
-              absurd (grind arith))
-        (result-cases (element-at d at)))
+    (λ r. let q = past-place d at (r .0) (r .1) in
+    let w = walk-ok d at (r .0) g (r .1) in
+    walk-ok m at (r .0) (omega arith) (within d (element-octets id v) at (r .0) g (r .1))
+    ∙ ap (more (r .0)) (grown-by k d v id (past (r .0)) (omega arith) (omega arith) (sym (ap fault-in w) ∙ h))
+    ∙ ap (λ (w : Walk). appended w (placed (length d) id v)) (sym w))
+    (λ r. let w = walk-bad d at (r .0) g (r .1) in
+    let z : Some (r .0) ≡ None = sym (ap fault-in w) ∙ h in
+    absurd (grind arith))
+    (result-cases (element-at d at)))
     (λ g. grown-end d v id at (omega arith))
     (cases-lt at (length d))
 

@@ -2,3 +2,4 @@ mod Closing
 mod Drafting
 mod Grown
 mod Over
+mod Readback

@@ -1,3 +1,4 @@
 pub mod Drafts
+pub mod Laws
 pub mod Octets
 pub mod Writing

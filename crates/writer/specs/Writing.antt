@@ -4,7 +4,7 @@ use mathlib.Core.Bool.{true, false}
 use mathlib.Core.List.{List, [], _∷_, _++_}
 use mathlib.Core.Logic.{_⊎_}
 use Prim.Native.Nat.{ℕ, _+_, _<_, _≤_}
-use lib.ListN.{length, take}
+use lib.ListN.{length, take, drop}
 use Rattle.writer.specs.declared.writing.OpenMessage.{OpenMessage}
 use Rattle.writer.specs.declared.writing.ClosedMessage.{ClosedMessage}
 use Rattle.layout.specs.Elements.{Part, elements, element-octets, size-octets}
@@ -31,6 +31,10 @@ drafted o = take (open-len o) (open-memory o)
 abbrev pub message-of : ClosedMessage → List ℕ
 message-of c = take (closed-len c) (closed-memory c)
 
+-- the octets of an open message that stand behind its length indicator
+abbrev pub behind : OpenMessage → List ℕ
+behind o = drop 2 (drafted o)
+
 -- the element with this value whose identifier stands at `at`
 abbrev pub placed : ℕ → ℕ → List ℕ → Part
 placed at id v = record { id = id; place = at; start = at + (1 + length (size-octets (length v))); value = v }
@@ -42,6 +46,7 @@ pub record Added (o : OpenMessage) (id : ℕ) (v : List ℕ) (p : OpenMessage) :
   pub fits : open-len o + length (element-octets id v) ≤ 512
   pub len : open-len p ≡ open-len o + length (element-octets id v)
   pub memory : open-memory p ≡ over (open-memory o) (open-len o) (element-octets id v)
+  pub octets : behind p ≡ behind o ++ element-octets id v
   pub elements : elements (drafted p) ≡ elements (drafted o) ++ placed (open-len o) id v ∷ []
 
 -- an element is refused: it is unlisted or missized, or would end past 512

@@ -6,7 +6,7 @@ ghost use lib.ListN.{length};
 ghost use Rattle.writer.specs.Octets.{over};
 
 /// Writes octets over those of the memory from `at` on.
-pub fn write_at(memory: &mut [u8], at: usize, octets: &[u8])
+pub(crate) fn write_at(memory: &mut [u8], at: usize, octets: &[u8])
     requires { ⌜ at + length (now octets) ≤ length (now memory) ⌝ }
     ensures { λ _. ⌜ now (memory .exit) ≡ over (now (memory .entry)) at (now (octets .entry)) ⌝ }
 {

@@ -36,4 +36,5 @@ pub struct ClosedMessage<'a> {
 }
 
 mod calls;
+
 pub use calls::fits;
