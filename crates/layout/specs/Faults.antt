@@ -1,5 +1,10 @@
--- The number, the place and the element of each refusal.
+-- The number, the place and the element of each refusal, and what an answer is that may be one.
+use mathlib.Core.Path.{_≡_}
 use Prim.Native.Nat.{ℕ}
+use Rattle.std.specs.Results.{Cases}
+use Rattle.std.specs.declared.option.Option.{Option}
+use Rattle.std.specs.declared.option.Option.the-variants.{Some, None}
+use Rattle.std.specs.declared.result.Result.{Result}
 use Rattle.layout.specs.declared.fault.Fault.{Fault}
 use Rattle.layout.specs.declared.fault.Fault.the-variants.{Size, Indicator, Discriminator, Unheard, CutShort, Overlong, Missing, Malformed, OutOfBounds, WrongState, Excluded, NoPlace}
 
@@ -27,3 +32,7 @@ refusal OutOfBounds = plain 6 0
 refusal WrongState = plain 7 0
 refusal Excluded = plain 8 0
 refusal NoPlace = plain 9 0
+
+-- the answer where `fault` is the first fault, if there is one: that fault, or else a value of which P holds
+abbrev pub Answers : {X : Type 0} → Option Fault → (X → Type 0) → Result X Fault → Type 0
+Answers fault P r = Cases r (λ x. (fault ≡ None) × P x) (λ f. fault ≡ Some f)

@@ -9,7 +9,6 @@ use lib.ListN.{getD}
 use lib.Dec.{eqb}
 use Rattle.std.proofs.shelf.Ways.{tells}
 use Rattle.std.proofs.shelf.Tests.{eqb-true}
-use Rattle.std.specs.Results.{Cases}
 use Rattle.std.specs.declared.option.Option.{Option}
 use Rattle.std.specs.declared.option.Option.the-variants.{Some, None}
 use Rattle.std.specs.declared.result.Result.{Result}
@@ -18,6 +17,7 @@ use Rattle.layout.specs.declared.fault.Fault.{Fault}
 use Rattle.message.specs.declared.heard.Heard.{Heard}
 use Rattle.message.specs.declared.types.HeardType.{HeardType}
 use Rattle.layout.specs.Elements.{walk, fault-in}
+use Rattle.layout.specs.Faults.{Answers}
 use Rattle.layout.specs.Layout.{header-fault, then-check}
 use Rattle.message.specs.Reading.{Reads, Says, read-fault, type-heard, type-fault, type-uses, uses-fault}
 use Rattle.message.specs.Types.{heard-as, heard, type-in, octet-of, discriminator-of, uses}
@@ -41,7 +41,7 @@ uses-decide m t h k w =
     ∙ ap (λ (x : Option HeardType). then-check (type-fault x) (then-check (fault-in (walk m 4)) (uses-fault m (type-uses x)))) k
     ∙ ap (λ (x : Option Fault). then-check x (uses-fault m (uses t))) w
 
-pub read-whole : (m : List ℕ) (t : HeardType) (r : Result Heard Fault) → header-fault m ≡ None → type-heard m ≡ Some t → fault-in (walk m 4) ≡ None → Reads m t r → Cases r (λ x. (read-fault m ≡ None) × Says m x) (λ f. read-fault m ≡ Some f)
+pub read-whole : (m : List ℕ) (t : HeardType) (r : Result Heard Fault) → header-fault m ≡ None → type-heard m ≡ Some t → fault-in (walk m 4) ≡ None → Reads m t r → Answers (read-fault m) (Says m) r
 read-whole m t (Ok x) h k w r =
-    (uses-decide m t h k w ∙ r .0, record { type = r .1 ∙ heard-octet (getD m 2 0) (getD m 3 0) t k; values = r .2 })
+    (uses-decide m t h k w ∙ r .0, record { type = r .1 .0 ∙ heard-octet (getD m 2 0) (getD m 3 0) t k; values = r .1 .1 })
 read-whole m t (Err f) h k w r = uses-decide m t h k w ∙ r

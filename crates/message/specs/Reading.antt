@@ -6,7 +6,6 @@ use Prim.Native.Nat.{ℕ, _+_, _*_}
 use lib.ListN.{length, getD}
 use lib.Dec.{eqb}
 use Rattle.std.specs.Options.{mapped}
-use Rattle.std.specs.Results.{Cases}
 use Rattle.std.specs.declared.result.Result.{Result}
 use Rattle.std.specs.declared.option.Option.{Option}
 use Rattle.std.specs.declared.option.Option.the-variants.{Some, None}
@@ -22,6 +21,7 @@ use Rattle.layout.specs.Elements.{Part, walk, elements, first-of, fault-in}
 use Rattle.message.specs.declared.form.Form.{Form}
 use Rattle.message.specs.declared.form.Form.the-variants.{Octets, Ip}
 use Rattle.message.specs.Forms.{has-form, form-of}
+use Rattle.layout.specs.Faults.{Answers}
 use Rattle.layout.specs.Layout.{then-check, header-fault}
 use Rattle.message.specs.Types.{Use, needs, may-use, needs-address, needs-at-zero, uses, octet-of, heard-as}
 use Rattle.message.specs.Values.{coded}
@@ -143,5 +143,4 @@ pub record Says (m : List ℕ) (h : Heard) : Type 0 where
 
 -- the values of a message of a type, or the first fault in them
 abbrev pub Reads : List ℕ → HeardType → Result Heard Fault → Type 0
-Reads m t r =
-    Cases r (λ h. (uses-fault m (uses t) ≡ None) × (heard-octet h ≡ octet-of t) × Brings m h) (λ f. uses-fault m (uses t) ≡ Some f)
+Reads m t r = Answers (uses-fault m (uses t)) (λ h. (heard-octet h ≡ octet-of t) × Brings m h) r

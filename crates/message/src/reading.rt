@@ -3,24 +3,24 @@
 ghost use mathlib.Core.Path.{_≡_};
 ghost use lib.ListN.{length};
 ghost use Rattle.std.specs.Options.{mapped};
-ghost use Rattle.std.specs.Results.{Cases};
 ghost use Rattle.std.specs.Slices.{found};
-ghost use Rattle.std.specs.declared.option.Option.the-variants.{Some, None};
+ghost use Rattle.std.specs.declared.option.Option.the-variants.{Some};
 ghost use Rattle.layout.specs.Elements.{seen};
-ghost use Rattle.message.specs.Reading.{first, number-in, number-if, address-in, needed-fault, used-fault, address-fault, uses-fault, read-fault, Rejects, Reads, Says};
-ghost use Rattle.message.specs.Types.{uses};
+ghost use Rattle.layout.specs.Faults.{Answers};
+ghost use Rattle.message.specs.Reading.{first, address-in, needed-fault, used-fault, use-fault, uses-fault, read-fault, Rejects, Reads, Says};
+ghost use Rattle.message.specs.Types.{uses, needs-address};
 ghost use Rattle.message.specs.Values.{coded};
 use crate::address::Address;
-use crate::form::Form;
 use crate::heard::Heard;
 use crate::heard::Rejection;
 use crate::types::HeardType;
 use crate::types::heard_type;
+use crate::value::L3Value;
 use crate::value::OctetValue;
+use crate::value::Opaque;
 use crate::value::PairValue;
 use crate::value::Value;
 use crate::value::ip_of;
-use crate::value::l3_of;
 use crate::value::name_of;
 use layout::apart::check_elements;
 use layout::apart::check_header;
@@ -49,7 +49,7 @@ fn missing(message: &[u8], id: u8) -> Fault
 
 // The value of a needed element.
 fn needed<V: Value>(message: &[u8], id: u8) -> Result<V, Fault>
-    ensures { λ r. ⌜ Cases r (λ v. (needed-fault form (now (message .entry)) id (first (now (message .entry)) id) ≡ None) × (held (first (now (message .entry)) id) ≡ v)) (λ f. needed-fault form (now (message .entry)) id (first (now (message .entry)) id) ≡ Some f) ⌝ }
+    ensures { λ r. ⌜ Answers (needed-fault form (now (message .entry)) id (first (now (message .entry)) id)) (λ v. held (first (now (message .entry)) id) ≡ v) r ⌝ }
 {
     match find(message, id) {
         Some(element) => V::of(element),
@@ -59,7 +59,7 @@ fn needed<V: Value>(message: &[u8], id: u8) -> Result<V, Fault>
 
 // The value of an element that may be absent.
 fn used<V: Value>(message: &[u8], id: u8) -> Result<Option<V>, Fault>
-    ensures { λ r. ⌜ Cases r (λ v. (used-fault form id (first (now (message .entry)) id) ≡ None) × (mapped (λ p. held (Some p)) (first (now (message .entry)) id) ≡ v)) (λ f. used-fault form id (first (now (message .entry)) id) ≡ Some f) ⌝ }
+    ensures { λ r. ⌜ Answers (used-fault form id (first (now (message .entry)) id)) (λ v. mapped (λ p. held (Some p)) (first (now (message .entry)) id) ≡ v) r ⌝ }
 {
     match find(message, id) {
         Some(element) => Ok(Some(V::of(element)?)),
@@ -69,7 +69,7 @@ fn used<V: Value>(message: &[u8], id: u8) -> Result<Option<V>, Fault>
 
 // A needed address, in the IP element or, where that is absent, in the name's.
 fn address(message: &[u8], ip_id: u8, name_id: u8) -> Result<Address, Fault>
-    ensures { λ r. ⌜ Cases r (λ a. (address-fault (now (message .entry)) «ip_id» «name_id» (first (now (message .entry)) «ip_id») (first (now (message .entry)) «name_id») ≡ None) × (address-in (now (message .entry)) «ip_id» «name_id» ≡ coded a)) (λ f. address-fault (now (message .entry)) «ip_id» «name_id» (first (now (message .entry)) «ip_id») (first (now (message .entry)) «name_id») ≡ Some f) ⌝ }
+    ensures { λ r. ⌜ Answers (use-fault (now (message .entry)) (needs-address «ip_id» «name_id»)) (λ a. address-in (now (message .entry)) «ip_id» «name_id» ≡ coded a) r ⌝ }
 {
     match find(message, ip_id) {
         Some(element) => ip_of(element),
@@ -103,7 +103,7 @@ fn read_redirect(message: &[u8]) -> Result<Heard, Fault>
 
 // The cause of a REGISTER REJECT or a DEREGISTER, and with cause 0 the wait.
 fn read_rejection(message: &[u8]) -> Result<Rejection, Fault>
-    ensures { λ r. ⌜ Cases r (λ x. (uses-fault (now (message .entry)) (uses HeardType.RegisterReject) ≡ None) × Rejects (now (message .entry)) x) (λ f. uses-fault (now (message .entry)) (uses HeardType.RegisterReject) ≡ Some f) ⌝ }
+    ensures { λ r. ⌜ Answers (uses-fault (now (message .entry)) (uses HeardType.RegisterReject)) (Rejects (now (message .entry))) r ⌝ }
 {
     let cause = needed::<u8>(message, 21)?;
     if cause != 0 {
@@ -116,13 +116,8 @@ fn read_rejection(message: &[u8]) -> Result<Rejection, Fault>
 fn read_downlink(message: &[u8]) -> Result<Heard, Fault>
     ensures { λ r. ⌜ Reads (now (message .entry)) HeardType.DownlinkDirectTransfer r ⌝ }
 {
-    match find(message, 26) {
-        Some(element) => {
-            let (start, len) = l3_of(element)?;
-            Ok(Heard::DownlinkDirectTransfer { start, len })
-        }
-        None => Err(missing(message, 26)),
-    }
+    let Opaque { start, len } = needed::<Opaque>(message, 26)?;
+    Ok(Heard::DownlinkDirectTransfer { start, len })
 }
 
 // The values of a message of a type, each checked as it is used.
@@ -147,7 +142,7 @@ fn read_values(message: &[u8], heard: HeardType) -> Result<Heard, Fault>
 
 /// Reads a message that is heard.
 pub fn read(message: &[u8]) -> Result<Heard, Fault>
-    ensures { λ r. ⌜ Cases r (λ h. (read-fault (now (message .entry)) ≡ None) × Says (now (message .entry)) h) (λ f. read-fault (now (message .entry)) ≡ Some f) ⌝ }
+    ensures { λ r. ⌜ Answers (read-fault (now (message .entry))) (Says (now (message .entry))) r ⌝ }
 {
     check_header(message)?;
     let heard = heard_type(message[2], message[3])?;

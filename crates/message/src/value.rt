@@ -4,15 +4,15 @@ ghost use mathlib.Core.Path.{_≡_};
 ghost use mathlib.Core.List.{_∷_};
 ghost use lib.ListN.{length};
 ghost use Rattle.std.specs.Options.{isSome};
-ghost use Rattle.std.specs.Results.{Cases};
 ghost use Rattle.std.specs.Slices.{found};
-ghost use Rattle.std.specs.declared.option.Option.the-variants.{Some, None};
+ghost use Rattle.std.specs.declared.option.Option.the-variants.{Some};
 ghost use Rattle.std.specs.declared.option.Option.{Option};
 ghost use Rattle.layout.specs.Elements.{Part, seen};
+ghost use Rattle.layout.specs.Faults.{Answers};
 ghost use Rattle.message.specs.declared.form.Form.{Form};
 ghost use Rattle.message.specs.declared.form.Form.the-variants.{Octets, Ip};
 ghost use Rattle.message.specs.Forms.{is-ip};
-ghost use Rattle.message.specs.Reading.{form-fault, number, value-of};
+ghost use Rattle.message.specs.Reading.{form-fault, number, start-of, value-of};
 ghost use Rattle.message.specs.Values.{coded};
 use crate::address::Address;
 use crate::name::Name;
@@ -39,7 +39,7 @@ pub(crate) trait Value: Sized {
 
     /// The value of an element, or the refusal of one that has not the form.
     fn of(element: Element<'_>) -> Result<Self, Fault>
-        ensures { λ r. ⌜ Cases r (λ v. (form-fault form (element .entry .id) (seen (element .entry)) ≡ None) × (held (Some (seen (element .entry))) ≡ v)) (λ f. form-fault form (element .entry .id) (seen (element .entry)) ≡ Some f) ⌝ };
+        ensures { λ r. ⌜ Answers (form-fault form (element .entry .id) (seen (element .entry))) (λ v. held (Some (seen (element .entry))) ≡ v) r ⌝ };
 }
 
 /// A number of one octet.
@@ -70,6 +70,31 @@ pub(crate) impl Value for u16 as PairValue {
     }
 }
 
+/// Where the octets of a value stand that belong to another protocol.
+#[derive(Clone, Copy)]
+pub(crate) struct Opaque {
+    pub(crate) start: usize,
+    pub(crate) len: usize,
+}
+
+/// An L3 message.
+pub(crate) impl Value for Opaque as L3Value {
+    ghost form = { Octets 1 251 };
+
+    ghost held = { λ o. record { start = start-of o; len = length (value-of o) } };
+
+    fn of(element: Element<'_>) -> Result<Opaque, Fault> {
+        let len = element.value.len();
+        if len < 1 || len > 251 {
+            return Err(malformed(element));
+        }
+        Ok(Opaque {
+            start: element.start,
+            len,
+        })
+    }
+}
+
 /// The IP address that a value is, by its form and size together.
 pub(crate) fn read_ip(value: &[u8]) -> Option<Address>
     ensures test { λ r. ⌜ isSome r ≡ is-ip (now (value .entry)) ⌝ }
@@ -92,7 +117,7 @@ pub(crate) fn read_ip(value: &[u8]) -> Option<Address>
 
 /// The address in an IP element.
 pub(crate) fn ip_of(element: Element<'_>) -> Result<Address, Fault>
-    ensures { λ r. ⌜ Cases r (λ a. (form-fault Ip (element .entry .id) (seen (element .entry)) ≡ None) × (coded a ≡ now (element .entry .value))) (λ f. form-fault Ip (element .entry .id) (seen (element .entry)) ≡ Some f) ⌝ }
+    ensures { λ r. ⌜ Answers (form-fault Ip (element .entry .id) (seen (element .entry))) (λ a. coded a ≡ now (element .entry .value)) r ⌝ }
 {
     match read_ip(element.value) {
         Some(address) => Ok(address),
@@ -102,21 +127,10 @@ pub(crate) fn ip_of(element: Element<'_>) -> Result<Address, Fault>
 
 /// The address in a name's element.
 pub(crate) fn name_of(element: Element<'_>) -> Result<Address, Fault>
-    ensures { λ r. ⌜ Cases r (λ a. (form-fault (Octets 3 64) (element .entry .id) (seen (element .entry)) ≡ None) × (coded a ≡ 0 ∷ now (element .entry .value))) (λ f. form-fault (Octets 3 64) (element .entry .id) (seen (element .entry)) ≡ Some f) ⌝ }
+    ensures { λ r. ⌜ Answers (form-fault (Octets 3 64) (element .entry .id) (seen (element .entry))) (λ a. coded a ≡ 0 ∷ now (element .entry .value)) r ⌝ }
 {
     match Name::new(element.value) {
         Ok(name) => Ok(Address::Named(name)),
         Err(_) => Err(malformed(element)),
     }
-}
-
-/// The place and the length of an L3 message.
-pub(crate) fn l3_of(element: Element<'_>) -> Result<(usize, usize), Fault>
-    ensures { λ r. ⌜ Cases r (λ l. (form-fault (Octets 1 251) (element .entry .id) (seen (element .entry)) ≡ None) × (l ≡ (element .entry .start, length (now (element .entry .value))))) (λ f. form-fault (Octets 1 251) (element .entry .id) (seen (element .entry)) ≡ Some f) ⌝ }
-{
-    let len = element.value.len();
-    if len < 1 || len > 251 {
-        return Err(malformed(element));
-    }
-    Ok((element.start, len))
 }

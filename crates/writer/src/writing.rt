@@ -4,13 +4,13 @@ ghost use Rattle.writer.specs.Drafts.{Sound, Sendable};
 
 /// Lent memory, and how many of its octets are written.
 #[derive(Drop)]
-pub struct Page<'a> {
+struct Page<'a> {
     memory: &'a mut [u8],
     len: usize,
 }
 
 /// What is owed while a message is open: that it be closed or struck out. No drop of it can be shown to be allowed.
-pub struct Owed {}
+struct Owed {}
 
 impl Drop for Owed {
     fn drop(self)

@@ -1,7 +1,7 @@
 ghost use mathlib.Core.Path.{_≡_};
-ghost use mathlib.Core.List.{[], _∷_, _++_};
-ghost use Prim.Native.Nat.{_+_, _-_, _/_, _%_, _<_, _≤_};
-ghost use lib.ListN.{length, take};
+ghost use mathlib.Core.List.{[], _∷_};
+ghost use Prim.Native.Nat.{_+_, _<_, _≤_};
+ghost use lib.ListN.{length};
 ghost use denote.Ref.{name};
 ghost use Rattle.std.specs.Results.{Cases};
 ghost use Rattle.std.specs.declared.option.Option.the-variants.{None};
@@ -144,9 +144,7 @@ impl<'a> OpenMessage<'a> {
         }
         self.page.put(id, value)
     }
-}
 
-impl<'a> OpenMessage<'a> {
     /// Closes the message: its length indicator is written, and it can be sent. Taken apart, it gives the elements that were added,
     /// in their order.
     pub fn close(self) -> ClosedMessage<'a>

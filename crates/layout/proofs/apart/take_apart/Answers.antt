@@ -7,5 +7,5 @@ pub returns : need.returns
 returns c =
     record {
       answer = search needs;
-      again = whole (c .args .message .now) (λ i. omega (arith, c .typed .message i)) (c .in-Continue-check-header .ensures tt .1) (c .in-Continue-check-elements .ensures tt);
+      again = whole (c .args .message .now) (λ i. omega (arith, c .typed .message i)) (c .in-Continue-check-header .ensures tt .1) (c .in-Continue-check-elements .ensures tt .0);
     }
