@@ -25,8 +25,7 @@ impl Ipv6 {
     }
 }
 
-// The short form that every address has one of: the longest run of two zero groups or more is left out, the first of
-// several.
+// The canonical short form (RFC 5952): the longest run of two zero groups or more is left out, the first of several.
 pub impl fmt::Display for Ipv6 as Ipv6Display {
     fn fmt<W: fmt::Write>(&self, f: &mut fmt::Formatter<W>) -> fmt::Result {
         let groups = self.groups;

@@ -14,11 +14,13 @@ pub struct Identity<'a> {
 pub impl fmt::Display for Identity<'_> as IdentityDisplay {
     fn fmt<W: fmt::Write>(&self, f: &mut fmt::Formatter<W>) -> fmt::Result {
         match self.first & 7 {
+            0 => return f.write_str("of no kind"),
             1 => f.write_str("IMSI ")?,
             2 => f.write_str("IMEI ")?,
             3 => f.write_str("IMEISV ")?,
             4 if self.rest.is_empty() => return f.write_str("TMSI/P-TMSI with no octets"),
             4 => return write!(f, "TMSI/P-TMSI {}", Hex(self.rest)),
+            5 => return f.write_str("TMGI"),
             kind => return write!(f, "of unknown kind {kind}"),
         }
         write_digits(self.first, self.rest, f)

@@ -63,11 +63,11 @@ fn read_file(rt: &LibcRuntime, path: &str) -> Result<Vec<u8>, AnyError> {
 
 // Reports each line of the input. Whether every line that is not blank held octets.
 fn dissect<B: BufRead + Drop>(rt: &LibcRuntime, input: B) -> io::Result<bool> {
-    let mut place = 0u64;
+    let mut line_number = 0u64;
     let mut number = 0u64;
     let mut good = true;
     for line in input.split(rt.alloc(), b'\n') {
-        place = place.saturating_add(1);
+        line_number = line_number.saturating_add(1);
         match read_line(rt.alloc(), line?.as_slice())? {
             Line::Blank => {}
             Line::Octets(octets) => {
@@ -79,7 +79,7 @@ fn dissect<B: BufRead + Drop>(rt: &LibcRuntime, input: B) -> io::Result<bool> {
             }
             Line::NotOctets => {
                 good = false;
-                eprintln!(rt, "line {place}: not octets in hexadecimal")?;
+                eprintln!(rt, "line {line_number}: not octets in hexadecimal")?;
             }
         }
     }

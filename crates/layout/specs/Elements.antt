@@ -102,7 +102,7 @@ fault-in (more p w) = fault-in w
 abbrev pub elements : List ℕ → List Part
 elements m = parts (walk m 4)
 
--- the first element with an identifier: of a repeated element the first counts
+-- the element that an identifier means: where several have it, the one that stands first
 abbrev pub first-of : ℕ → List Part → Option Part
 first-of id [] = None
 first-of id (p ∷ ps) = cond (eqb (p .id) id) (Some p) (first-of id ps)

@@ -33,6 +33,10 @@ refusal WrongState = plain 7 0
 refusal Excluded = plain 8 0
 refusal NoPlace = plain 9 0
 
+-- a fault is refused with this number, at this place, for this element
+abbrev pub Refuses : ℕ → ℕ → ℕ → Fault → Type 0
+Refuses n p e f = refusal f ≡ at-element n p e
+
 -- the answer where `fault` is the first fault, if there is one: that fault, or else a value of which P holds
 abbrev pub Answers : {X : Type 0} → Option Fault → (X → Type 0) → Result X Fault → Type 0
 Answers fault P r = Cases r (λ x. (fault ≡ None) × P x) (λ f. fault ≡ Some f)

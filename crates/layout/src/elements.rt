@@ -36,7 +36,7 @@ impl<'a> Elements<'a> {
         while let Ok(Some(element)) = step_at(message, at) {
             if element.id == id {
                 found = Some(element);
-                break; // of a repeated element the first counts
+                break; // a later one with the same identifier does not count
             }
             at = element.start + element.value.len();
         }

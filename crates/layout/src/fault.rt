@@ -3,7 +3,8 @@
 ghost use mathlib.Core.Path.{_≡_};
 ghost use Rattle.layout.specs.Faults.{refusal};
 
-/// What was wrong, one case for each rule that a call can break. A definition gives each case's number, place and element.
+/// What was wrong, one case for each rule that a call can break. The definition `refusal` gives each case's number, place and
+/// element.
 #[derive(Clone, Copy, PartialEq, Eq, Debug)]
 pub enum Fault {
     /// The message has fewer than 4 octets or more than 512.
@@ -18,17 +19,17 @@ pub enum Fault {
     CutShort { place: usize, element: u8 },
     /// An element's length below 128 takes two octets.
     Overlong { place: usize, element: u8 },
-    /// A needed element is absent. The place is the message's length.
+    /// The type needs an element that is not there. The place is where the message ends.
     Missing { place: usize, element: u8 },
-    /// A used element has a value of the wrong size or form.
+    /// The value of an element that the type uses is not of its form.
     Malformed { place: usize, element: u8 },
     /// An argument is outside the bounds that the call has for it.
     OutOfBounds,
-    /// The call or the message does not belong to the station's state.
+    /// In its state the station does not take the call or hear the message.
     WrongState,
     /// The access point is on the exclude list.
     Excluded,
-    /// Every place of the carrier is taken.
+    /// The carrier has no place left for a message.
     NoPlace,
 }
 

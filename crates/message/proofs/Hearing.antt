@@ -43,5 +43,5 @@ uses-decide m t h k w =
 
 pub read-whole : (m : List ℕ) (t : HeardType) (r : Result Heard Fault) → header-fault m ≡ None → type-heard m ≡ Some t → fault-in (walk m 4) ≡ None → Reads m t r → Answers (read-fault m) (Says m) r
 read-whole m t (Ok x) h k w r =
-    (uses-decide m t h k w ∙ r .0, record { type = r .1 .0 ∙ heard-octet (getD m 2 0) (getD m 3 0) t k; values = r .1 .1 })
+    (uses-decide m t h k w ∙ r .0, record { type = ap octet-of (r .1 .0) ∙ heard-octet (getD m 2 0) (getD m 3 0) t k; values = r .1 .1 })
 read-whole m t (Err f) h k w r = uses-decide m t h k w ∙ r

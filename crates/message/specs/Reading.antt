@@ -13,13 +13,13 @@ use Rattle.layout.specs.declared.fault.Fault.{Fault}
 use Rattle.layout.specs.declared.fault.Fault.the-variants.{Unheard, Missing, Malformed}
 use Rattle.message.specs.declared.address.Address.{Address}
 use Rattle.message.specs.declared.types.HeardType.{HeardType}
+use Rattle.message.specs.declared.types.HeardType.the-variants.{RegisterAccept as accept, RegisterRedirect as redirect, RegisterReject as reject, Deregister as deregister, Release as release, DownlinkDirectTransfer as downlink, RequestAccept as request-accept, RequestReject as request-reject}
 use Rattle.message.specs.declared.heard.Heard.{Heard}
 use Rattle.message.specs.declared.heard.Heard.the-variants.{RegisterAccept, RegisterRedirect, RegisterReject, Deregister, Release, DownlinkDirectTransfer, RequestAccept, RequestReject}
 use Rattle.message.specs.declared.heard.Rejection.{Rejection}
 use Rattle.message.specs.declared.heard.Rejection.the-variants.{Congestion, Cause}
 use Rattle.layout.specs.Elements.{Part, walk, elements, first-of, fault-in}
 use Rattle.message.specs.declared.form.Form.{Form}
-use Rattle.message.specs.declared.form.Form.the-variants.{Octets, Ip}
 use Rattle.message.specs.Forms.{has-form, form-of}
 use Rattle.layout.specs.Faults.{Answers}
 use Rattle.layout.specs.Layout.{then-check, header-fault}
@@ -75,15 +75,15 @@ needed-fault f m id None = Some (Missing (length m) id)
 needed-fault f m id (Some p) = form-fault f id p
 
 -- an address: the name is looked at only where the IP element is absent
-abbrev pub address-fault : List ℕ → ℕ → ℕ → Option Part → Option Part → Option Fault
-address-fault m i n (Some p) q = form-fault Ip i p
-address-fault m i n None None = Some (Missing (length m) i)
-address-fault m i n None (Some p) = form-fault (Octets 3 64) n p
+abbrev pub address-fault : Form → Form → List ℕ → ℕ → ℕ → Option Part → Option Part → Option Fault
+address-fault f g m i n (Some p) q = form-fault f i p
+address-fault f g m i n None None = Some (Missing (length m) i)
+address-fault f g m i n None (Some p) = form-fault g n p
 
 abbrev pub use-fault : List ℕ → Use → Option Fault
 use-fault m (needs id) = needed-fault (form-of id) m id (first m id)
 use-fault m (may-use id) = used-fault (form-of id) id (first m id)
-use-fault m (needs-address i n) = address-fault m i n (first m i) (first m n)
+use-fault m (needs-address i n) = address-fault (form-of i) (form-of n) m i n (first m i) (first m n)
 use-fault m (needs-at-zero a b) = cond (eqb (number-in m a) 0) (needed-fault (form-of b) m b (first m b)) None
 
 -- the uses of a message, one after another as listed
@@ -109,16 +109,16 @@ read-fault m =
     then-check (header-fault m) (then-check (type-fault (type-heard m))
     (then-check (fault-in (walk m 4)) (uses-fault m (type-uses (type-heard m)))))
 
--- the type's octet of what was heard
-abbrev pub heard-octet : Heard → ℕ
-heard-octet (RegisterAccept v i) = 17
-heard-octet (RegisterRedirect g c p) = 18
-heard-octet (RegisterReject x) = 19
-heard-octet (Deregister x) = 20
-heard-octet (Release c) = 64
-heard-octet (DownlinkDirectTransfer s n) = 114
-heard-octet RequestAccept = 129
-heard-octet (RequestReject c) = 130
+-- the type of what was heard
+abbrev pub type-of : Heard → HeardType
+type-of (RegisterAccept v i) = accept
+type-of (RegisterRedirect g c p) = redirect
+type-of (RegisterReject x) = reject
+type-of (Deregister x) = deregister
+type-of (Release c) = release
+type-of (DownlinkDirectTransfer s n) = downlink
+type-of RequestAccept = request-accept
+type-of (RequestReject c) = request-reject
 
 -- a rejection: cause 0 brings the wait
 abbrev pub Rejects : List ℕ → Rejection → Type 0
@@ -138,9 +138,9 @@ Brings m (RequestReject c) = number-in m 29 ≡ c
 
 -- what a message says that has no fault
 pub record Says (m : List ℕ) (h : Heard) : Type 0 where
-  pub type : heard-octet h ≡ getD m 3 0
+  pub type : octet-of (type-of h) ≡ getD m 3 0
   pub values : Brings m h
 
 -- the values of a message of a type, or the first fault in them
 abbrev pub Reads : List ℕ → HeardType → Result Heard Fault → Type 0
-Reads m t r = Answers (uses-fault m (uses t)) (λ h. (heard-octet h ≡ octet-of t) × Brings m h) r
+Reads m t r = Answers (uses-fault m (uses t)) (λ h. (type-of h ≡ t) × Brings m h) r

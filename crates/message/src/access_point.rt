@@ -4,6 +4,7 @@ ghost use mathlib.Core.Path.{_≡_};
 ghost use lib.ListN.{length};
 ghost use Rattle.std.specs.Results.{Cases};
 ghost use Rattle.std.specs.Orderings.{Decides};
+ghost use Rattle.layout.specs.Faults.{Refuses};
 ghost use Rattle.message.specs.Values.{point};
 use crate::octets::same_octets;
 use layout::fault::Fault;
@@ -17,7 +18,7 @@ pub struct AccessPoint {
 impl AccessPoint {
     /// The access point with these octets.
     pub fn new(octets: &[u8]) -> Result<AccessPoint, Fault>
-        ensures { λ r. ⌜ Cases r (λ p. (length (now (octets .entry)) ≡ 6) × (point p ≡ now (octets .entry))) (λ f. (length (now (octets .entry)) ≡ 6 → ⊥) × (f ≡ Fault.OutOfBounds)) ⌝ }
+        ensures { λ r. ⌜ Cases r (λ p. (length (now (octets .entry)) ≡ 6) × (point p ≡ now (octets .entry))) (λ f. (length (now (octets .entry)) ≡ 6 → ⊥) × Refuses 6 0 0 f) ⌝ }
     {
         if octets.len() != 6 {
             return Err(Fault::OutOfBounds);

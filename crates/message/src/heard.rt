@@ -16,7 +16,7 @@ pub enum Rejection {
 pub enum Heard {
     RegisterAccept {
         tu3906: u16,
-        indicator: Option<u8>,
+        serving_table: Option<u8>,
     },
     RegisterRedirect {
         gateway: Address,

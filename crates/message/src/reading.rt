@@ -7,8 +7,9 @@ ghost use Rattle.std.specs.Slices.{found};
 ghost use Rattle.std.specs.declared.option.Option.the-variants.{Some};
 ghost use Rattle.layout.specs.Elements.{seen};
 ghost use Rattle.layout.specs.Faults.{Answers};
-ghost use Rattle.message.specs.Reading.{first, address-in, needed-fault, used-fault, use-fault, uses-fault, read-fault, Rejects, Reads, Says};
-ghost use Rattle.message.specs.Types.{uses, needs-address};
+ghost use Rattle.message.specs.declared.form.Form.the-variants.{Octets, Ip};
+ghost use Rattle.message.specs.Reading.{first, address-in, needed-fault, used-fault, address-fault, uses-fault, read-fault, Rejects, Reads, Says};
+ghost use Rattle.message.specs.Types.{uses};
 ghost use Rattle.message.specs.Values.{coded};
 use crate::address::Address;
 use crate::heard::Heard;
@@ -69,7 +70,7 @@ fn used<V: Value>(message: &[u8], id: u8) -> Result<Option<V>, Fault>
 
 // A needed address, in the IP element or, where that is absent, in the name's.
 fn address(message: &[u8], ip_id: u8, name_id: u8) -> Result<Address, Fault>
-    ensures { λ r. ⌜ Answers (use-fault (now (message .entry)) (needs-address «ip_id» «name_id»)) (λ a. address-in (now (message .entry)) «ip_id» «name_id» ≡ coded a) r ⌝ }
+    ensures { λ r. ⌜ Answers (address-fault Ip (Octets 3 64) (now (message .entry)) «ip_id» «name_id» (first (now (message .entry)) «ip_id») (first (now (message .entry)) «name_id»)) (λ a. address-in (now (message .entry)) «ip_id» «name_id» ≡ coded a) r ⌝ }
 {
     match find(message, ip_id) {
         Some(element) => ip_of(element),
@@ -84,8 +85,11 @@ fn read_accept(message: &[u8]) -> Result<Heard, Fault>
     ensures { λ r. ⌜ Reads (now (message .entry)) HeardType.RegisterAccept r ⌝ }
 {
     let tu3906 = needed::<u16>(message, 22)?;
-    let indicator = used::<u8>(message, 67)?;
-    Ok(Heard::RegisterAccept { tu3906, indicator })
+    let serving_table = used::<u8>(message, 67)?;
+    Ok(Heard::RegisterAccept {
+        tu3906,
+        serving_table,
+    })
 }
 
 fn read_redirect(message: &[u8]) -> Result<Heard, Fault>

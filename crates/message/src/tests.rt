@@ -39,9 +39,14 @@ fn a_message_may_have_512_octets() -> Result<(), Fail> {
 #[test]
 fn an_accept_brings_its_timer() -> Result<(), Fail> {
     match read(&[0x00, 0x06, 0x00, 0x11, 0x16, 0x02, 0x00, 0x1E]) {
-        Ok(Heard::RegisterAccept { tu3906, indicator }) => {
+        Ok(
+            Heard::RegisterAccept {
+                tu3906,
+                serving_table,
+            },
+        ) => {
             check_eq(tu3906, 30)?;
-            check_eq(indicator, None)
+            check_eq(serving_table, None)
         }
         _ => Err(Fail::new("no REGISTER ACCEPT")),
     }

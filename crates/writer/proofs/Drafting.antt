@@ -15,9 +15,9 @@ use Rattle.std.specs.declared.option.Option.the-variants.{Some, None}
 use Rattle.std.specs.declared.result.Result.{Result}
 use Rattle.std.specs.declared.result.Result.the-variants.{Ok, Err}
 use Rattle.layout.specs.declared.fault.Fault.{Fault}
-use Rattle.layout.specs.declared.fault.Fault.the-variants.{OutOfBounds}
 use Rattle.writer.specs.declared.writing.OpenMessage.{OpenMessage}
 use Rattle.writer.specs.Drafts.{Held, Whole, Sound, headed}
+use Rattle.layout.specs.Faults.{Refuses}
 use Rattle.layout.specs.Elements.{Part, walk, parts, fault-in, elements, element-octets}
 use Rattle.writer.specs.Octets.{over}
 use Rattle.message.specs.Types.{discriminator-of}
@@ -95,7 +95,7 @@ abbrev pub Left : {X : Type 0} → Result X Fault → List ℕ → ℕ → ℕ �
 Left r m n id v m′ n′ =
     Cases r
     (λ _. (n + length (element-octets id v) ≤ 512) × (n′ ≡ n + length (element-octets id v)) × (m′ ≡ over m n (element-octets id v)))
-    (λ f. (f ≡ OutOfBounds) × (512 < n + length (element-octets id v)) × (n′ ≡ n) × (m′ ≡ m))
+    (λ f. Refuses 6 0 0 f × (512 < n + length (element-octets id v)) × (n′ ≡ n) × (m′ ≡ m))
 
 sound-as : (m m′ : List ℕ) (n n′ : ℕ) → m′ ≡ m → n′ ≡ n → Sound m n → Sound m′ n′
 sound-as m m′ n n′ e f s =
@@ -109,7 +109,7 @@ left-sound (Ok x) m v m′ n id n′ s l = sound-as _ _ _ _ (l .2) (l .1) (put m
 left-sound (Err f) m v m′ n id n′ s l = sound-as _ _ _ _ (l .3) (l .2) s
 
 -- an element that has its form is added, or there is no room for it
-pub left-added : {X : Type 0} (r : Result X Fault) (o p : OpenMessage) (id : ℕ) (v : List ℕ) → has-form (form-of id) v ≡ true → Left r (open-memory o) (open-len o) id v (open-memory p) (open-len p) → Cases r (λ _. Added o id v p) (λ f. (f ≡ OutOfBounds) × Unfit o id v × Unchanged o p)
+pub left-added : {X : Type 0} (r : Result X Fault) (o p : OpenMessage) (id : ℕ) (v : List ℕ) → has-form (form-of id) v ≡ true → Left r (open-memory o) (open-len o) id v (open-memory p) (open-len p) → Cases r (λ _. Added o id v p) (λ f. Refuses 6 0 0 f × Unfit o id v × Unchanged o p)
 left-added (Ok x) o p id v h l =
     record {
       formed = h;

@@ -2,6 +2,7 @@ ghost use mathlib.Core.Path.{_≡_};
 ghost use Prim.Native.Nat.{_≤_, _<_};
 ghost use lib.ListN.{length};
 ghost use Rattle.std.specs.Results.{Cases};
+ghost use Rattle.layout.specs.Faults.{Refuses};
 ghost use Rattle.message.specs.Values.{spelled};
 ghost use Rattle.message.specs.Bounds.{Between};
 use super::Name;
@@ -10,7 +11,7 @@ use layout::fault::Fault;
 impl Name {
     /// The name with these octets.
     pub fn new(octets: &[u8]) -> Result<Name, Fault>
-        ensures { λ r. ⌜ Cases r (λ n. Between 3 64 (length (now (octets .entry))) × (spelled n ≡ now (octets .entry))) (λ f. (Between 3 64 (length (now (octets .entry))) → ⊥) × (f ≡ Fault.OutOfBounds)) ⌝ }
+        ensures { λ r. ⌜ Cases r (λ n. Between 3 64 (length (now (octets .entry))) × (spelled n ≡ now (octets .entry))) (λ f. (Between 3 64 (length (now (octets .entry))) → ⊥) × Refuses 6 0 0 f) ⌝ }
     {
         let len = octets.len();
         if len < 3 || len > 64 {

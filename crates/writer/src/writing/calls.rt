@@ -7,6 +7,7 @@ ghost use Rattle.std.specs.Results.{Cases};
 ghost use Rattle.std.specs.declared.option.Option.the-variants.{None};
 ghost use Rattle.writer.specs.Drafts.{Held, headed, indicated};
 ghost use Rattle.layout.specs.Elements.{elements, element-octets, size-octets, rest};
+ghost use Rattle.layout.specs.Faults.{Refuses};
 ghost use Rattle.layout.specs.Layout.{apart-fault, counted};
 ghost use Rattle.message.specs.Forms.{form-of, has-form};
 ghost use Rattle.message.specs.Types.{discriminator-of};
@@ -84,7 +85,7 @@ impl Page<'_> {
             (λ _. (now (self .entry) .len + length (element-octets id (now (value .entry))) ≤ 512)
             × (now (self .exit) .len ≡ now (self .entry) .len + length (element-octets id (now (value .entry))))
             × (now (now (self .exit) .memory) ≡ over (now (now (self .entry) .memory)) (now (self .entry) .len) (element-octets id (now (value .entry)))))
-            (λ f. (f ≡ Fault.OutOfBounds)
+            (λ f. Refuses 6 0 0 f
             × (512 < now (self .entry) .len + length (element-octets id (now (value .entry))))
             × (now (self .exit) .len ≡ now (self .entry) .len)
             × (now (now (self .exit) .memory) ≡ now (now (self .entry) .memory))) ⌝ }
@@ -108,7 +109,7 @@ impl Owed {
 
 /// Whether memory of `len` octets can be lent for a message.
 pub fn fits(len: usize) -> Result<(), Fault>
-    ensures { λ r. ⌜ Cases r (λ _. 512 ≤ len) (λ f. (len < 512) × (f ≡ Fault.OutOfBounds)) ⌝ }
+    ensures { λ r. ⌜ Cases r (λ _. 512 ≤ len) (λ f. (len < 512) × Refuses 6 0 0 f) ⌝ }
 {
     if len < 512 {
         Err(Fault::OutOfBounds)
@@ -137,7 +138,7 @@ impl<'a> OpenMessage<'a> {
     /// Adds an element behind those that stand there.
     pub fn add(&mut self, id: u8, value: &[u8]) -> Result<(), Fault>
         ensures name { λ _. ⌜ name (now (self .exit) .page .memory) ≡ name (now (self .entry) .page .memory) ⌝ }
-        ensures cases { λ r. ⌜ Cases r (λ _. Added (now (self .entry)) id (now (value .entry)) (now (self .exit))) (λ f. (f ≡ Fault.OutOfBounds) × Unfit (now (self .entry)) id (now (value .entry)) × Unchanged (now (self .entry)) (now (self .exit))) ⌝ }
+        ensures cases { λ r. ⌜ Cases r (λ _. Added (now (self .entry)) id (now (value .entry)) (now (self .exit))) (λ f. Refuses 6 0 0 f × Unfit (now (self .entry)) id (now (value .entry)) × Unchanged (now (self .entry)) (now (self .exit))) ⌝ }
     {
         if !formed(id, value) {
             return Err(Fault::OutOfBounds);
