@@ -10,9 +10,9 @@ use crate::identity::Identity;
 use crate::identity::IdentityDisplay;
 use crate::names::Kind;
 use crate::names::look_up;
-use message::form::Form;
-use message::form::form_of;
 use std::fmt;
+use values::form::Form;
+use values::form::form_of;
 
 /// What an element is, and what its value says.
 #[derive(Clone, Copy)]

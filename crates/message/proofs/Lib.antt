@@ -1,2 +1,1 @@
-mod Heads
 mod Hearing

@@ -11,7 +11,7 @@ use Rattle.std.specs.declared.option.Option.{Option}
 use Rattle.std.specs.declared.option.Option.the-variants.{Some, None}
 use Rattle.layout.specs.declared.fault.Fault.{Fault}
 use Rattle.layout.specs.declared.fault.Fault.the-variants.{Unheard, Missing, Malformed}
-use Rattle.message.specs.declared.address.Address.{Address}
+use Rattle.values.specs.declared.address.Address.{Address}
 use Rattle.message.specs.declared.types.HeardType.{HeardType}
 use Rattle.message.specs.declared.types.HeardType.the-variants.{RegisterAccept as accept, RegisterRedirect as redirect, RegisterReject as reject, Deregister as deregister, Release as release, DownlinkDirectTransfer as downlink, RequestAccept as request-accept, RequestReject as request-reject}
 use Rattle.message.specs.declared.heard.Heard.{Heard}
@@ -19,12 +19,12 @@ use Rattle.message.specs.declared.heard.Heard.the-variants.{RegisterAccept, Re
 use Rattle.message.specs.declared.heard.Rejection.{Rejection}
 use Rattle.message.specs.declared.heard.Rejection.the-variants.{Congestion, Cause}
 use Rattle.layout.specs.Elements.{Part, walk, elements, first-of, fault-in}
-use Rattle.message.specs.declared.form.Form.{Form}
-use Rattle.message.specs.Forms.{has-form, form-of}
+use Rattle.values.specs.declared.form.Form.{Form}
+use Rattle.values.specs.Forms.{has-form, form-of}
 use Rattle.layout.specs.Faults.{Answers}
 use Rattle.layout.specs.Layout.{then-check, header-fault}
 use Rattle.message.specs.Types.{Use, needs, may-use, needs-address, needs-at-zero, uses, octet-of, heard-as}
-use Rattle.message.specs.Values.{coded}
+use Rattle.values.specs.Values.{coded}
 
 -- the element of a message that counts
 abbrev pub first : List ℕ → ℕ → Option Part

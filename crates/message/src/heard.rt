@@ -1,6 +1,6 @@
 //! What a message says that is heard.
 
-use crate::address::Address;
+use values::address::Address;
 
 /// Why a registration is rejected or ended.
 #[derive(Clone, Copy)]

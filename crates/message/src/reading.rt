@@ -7,11 +7,10 @@ ghost use Rattle.std.specs.Slices.{found};
 ghost use Rattle.std.specs.declared.option.Option.the-variants.{Some};
 ghost use Rattle.layout.specs.Elements.{seen};
 ghost use Rattle.layout.specs.Faults.{Answers};
-ghost use Rattle.message.specs.declared.form.Form.the-variants.{Octets, Ip};
+ghost use Rattle.values.specs.declared.form.Form.the-variants.{Octets, Ip};
 ghost use Rattle.message.specs.Reading.{first, address-in, needed-fault, used-fault, address-fault, uses-fault, read-fault, Rejects, Reads, Says};
 ghost use Rattle.message.specs.Types.{uses};
-ghost use Rattle.message.specs.Values.{coded};
-use crate::address::Address;
+ghost use Rattle.values.specs.Values.{coded};
 use crate::heard::Heard;
 use crate::heard::Rejection;
 use crate::types::HeardType;
@@ -28,6 +27,7 @@ use layout::apart::check_header;
 use layout::element::Element;
 use layout::elements::Elements;
 use layout::fault::Fault;
+use values::address::Address;
 
 // The element of a message that counts, if it is there.
 fn find(message: &[u8], id: u8) -> Option<Element<'_>>

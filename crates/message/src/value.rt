@@ -3,21 +3,19 @@
 ghost use mathlib.Core.Path.{_≡_};
 ghost use mathlib.Core.List.{_∷_};
 ghost use lib.ListN.{length};
-ghost use Rattle.std.specs.Options.{isSome};
-ghost use Rattle.std.specs.Slices.{found};
 ghost use Rattle.std.specs.declared.option.Option.the-variants.{Some};
 ghost use Rattle.std.specs.declared.option.Option.{Option};
 ghost use Rattle.layout.specs.Elements.{Part, seen};
 ghost use Rattle.layout.specs.Faults.{Answers};
-ghost use Rattle.message.specs.declared.form.Form.{Form};
-ghost use Rattle.message.specs.declared.form.Form.the-variants.{Octets, Ip};
-ghost use Rattle.message.specs.Forms.{is-ip};
+ghost use Rattle.values.specs.declared.form.Form.{Form};
+ghost use Rattle.values.specs.declared.form.Form.the-variants.{Octets, Ip};
 ghost use Rattle.message.specs.Reading.{form-fault, number, start-of, value-of};
-ghost use Rattle.message.specs.Values.{coded};
-use crate::address::Address;
-use crate::name::Name;
+ghost use Rattle.values.specs.Values.{coded};
 use layout::element::Element;
 use layout::fault::Fault;
+use values::address::Address;
+use values::address::read_ip;
+use values::name::Name;
 
 /// The refusal of an element whose value has not its form.
 fn malformed(element: Element<'_>) -> Fault
@@ -92,26 +90,6 @@ pub(crate) impl Value for Opaque as L3Value {
             start: element.start,
             len,
         })
-    }
-}
-
-/// The IP address that a value is, by its form and size together.
-pub(crate) fn read_ip(value: &[u8]) -> Option<Address>
-    ensures test { λ r. ⌜ isSome r ≡ is-ip (now (value .entry)) ⌝ }
-    ensures is { λ r. ⌜ found r (λ a. coded a ≡ now (value .entry)) ⌝ }
-{
-    match value {
-        [0x21, octets @ ..] if octets.len() == 4 => {
-            let mut own = [0; 4];
-            own.copy_from_slice(octets);
-            Some(Address::V4(own))
-        }
-        [0x57, octets @ ..] if octets.len() == 16 => {
-            let mut own = [0; 16];
-            own.copy_from_slice(octets);
-            Some(Address::V6(own))
-        }
-        _ => None,
     }
 }
 

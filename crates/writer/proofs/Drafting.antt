@@ -21,7 +21,7 @@ use Rattle.layout.specs.Faults.{Refuses}
 use Rattle.layout.specs.Elements.{Part, walk, parts, fault-in, elements, element-octets}
 use Rattle.writer.specs.Octets.{over}
 use Rattle.message.specs.Types.{discriminator-of}
-use Rattle.message.specs.Forms.{form-of, has-form}
+use Rattle.values.specs.Forms.{form-of, has-form}
 use Rattle.writer.specs.Writing.{placed, open-memory, open-len, Added, Unfit, Unchanged}
 use Rattle.writer.proofs.Closing.{none-from}
 use Rattle.writer.proofs.Grown.{Grown, grown}

@@ -8,7 +8,7 @@ use lib.ListN.{length, take, drop}
 use Rattle.writer.specs.declared.writing.OpenMessage.{OpenMessage}
 use Rattle.writer.specs.declared.writing.ClosedMessage.{ClosedMessage}
 use Rattle.layout.specs.Elements.{Part, elements, element-octets, size-octets}
-use Rattle.message.specs.Forms.{form-of, has-form}
+use Rattle.values.specs.Forms.{form-of, has-form}
 use Rattle.writer.specs.Octets.{over}
 
 -- the memory of a message, and how many octets of it are the message's

@@ -9,7 +9,7 @@ ghost use Rattle.writer.specs.Drafts.{Held, headed, indicated};
 ghost use Rattle.layout.specs.Elements.{elements, element-octets, size-octets, rest};
 ghost use Rattle.layout.specs.Faults.{Refuses};
 ghost use Rattle.layout.specs.Layout.{apart-fault, counted};
-ghost use Rattle.message.specs.Forms.{form-of, has-form};
+ghost use Rattle.values.specs.Forms.{form-of, has-form};
 ghost use Rattle.message.specs.Types.{discriminator-of};
 ghost use Rattle.writer.specs.Octets.{over};
 ghost use Rattle.writer.specs.Writing.{open-memory, open-len, closed-memory, closed-len, drafted, behind, message-of, Added, Unfit, Unchanged};
@@ -20,8 +20,8 @@ use super::Page;
 use crate::octets::write_at;
 use layout::elements::Elements;
 use layout::fault::Fault;
-use message::form::form_of;
 use message::types::discriminator;
+use values::form::form_of;
 
 // Writes the discriminator and the type.
 fn write_head(memory: &mut [u8], type_octet: u8)

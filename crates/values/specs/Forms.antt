@@ -4,8 +4,8 @@ use mathlib.Core.List.{List, [], _∷_}
 use Prim.Native.Nat.{ℕ}
 use lib.ListN.{length, getD}
 use lib.Dec.{eqb, leb}
-use Rattle.message.specs.declared.form.Form.{Form}
-use Rattle.message.specs.declared.form.Form.the-variants.{Octets, Ip, Unlisted}
+use Rattle.values.specs.declared.form.Form.{Form}
+use Rattle.values.specs.declared.form.Form.the-variants.{Octets, Ip, Unlisted}
 
 -- an IP value: 21 (hexadecimal) and four octets, or 57 and sixteen
 abbrev pub is-ip : List ℕ → Bool

@@ -2,11 +2,11 @@
 use mathlib.Core.List.{List, _∷_}
 use Prim.Native.Nat.{ℕ}
 use lib.ListN.{take}
-use Rattle.message.specs.declared.access_point.AccessPoint.{AccessPoint}
-use Rattle.message.specs.declared.identity.MobileIdentity.{MobileIdentity}
-use Rattle.message.specs.declared.name.Name.{Name}
-use Rattle.message.specs.declared.address.Address.{Address}
-use Rattle.message.specs.declared.address.Address.the-variants.{V4, V6, Named}
+use Rattle.values.specs.declared.access_point.AccessPoint.{AccessPoint}
+use Rattle.values.specs.declared.identity.MobileIdentity.{MobileIdentity}
+use Rattle.values.specs.declared.name.Name.{Name}
+use Rattle.values.specs.declared.address.Address.{Address}
+use Rattle.values.specs.declared.address.Address.the-variants.{V4, V6, Named}
 
 -- the six octets of an access point
 abbrev pub point : AccessPoint → List ℕ

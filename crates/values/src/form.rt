@@ -1,8 +1,8 @@
 //! The listed elements and the forms of their values.
 
 ghost use mathlib.Core.Path.{_≡_};
-ghost use Rattle.message.specs.Forms.{form-of, has-form};
-use crate::value::read_ip;
+ghost use Rattle.values.specs.Forms.{form-of, has-form};
+use crate::address::read_ip;
 
 /// What a value has to be.
 #[derive(Clone, Copy)]

@@ -1,7 +1,7 @@
 use borrow.Author.Needs.{needs}
 use native.Mathlib.Omega.{arith}
-use Rattle.message.proofs.Heads.{headed}
-use Rattle.message.proofs.value.read_ip.Needs as need
+use Rattle.values.proofs.Heads.{headed}
+use Rattle.values.proofs.address.read_ip.Needs as need
 
 pub returns-in-33 : need.returns-in-33
 returns-in-33 c =

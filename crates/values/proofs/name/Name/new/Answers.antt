@@ -1,6 +1,6 @@
 use borrow.Author.Needs.{needs}
 use Rattle.std.proofs.shelf.Lists.{take-at}
-use Rattle.message.proofs.identity.MobileIdentity.new.Needs as need
+use Rattle.values.proofs.name.Name.new.Needs as need
 
 pub returns : need.returns
 returns c = search (needs, take-at)

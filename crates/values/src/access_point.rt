@@ -5,7 +5,7 @@ ghost use lib.ListN.{length};
 ghost use Rattle.std.specs.Results.{Cases};
 ghost use Rattle.std.specs.Orderings.{Decides};
 ghost use Rattle.layout.specs.Faults.{Refuses};
-ghost use Rattle.message.specs.Values.{point};
+ghost use Rattle.values.specs.Values.{point};
 use crate::octets::same_octets;
 use layout::fault::Fault;
 

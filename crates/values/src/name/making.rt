@@ -3,8 +3,8 @@ ghost use Prim.Native.Nat.{_≤_, _<_};
 ghost use lib.ListN.{length};
 ghost use Rattle.std.specs.Results.{Cases};
 ghost use Rattle.layout.specs.Faults.{Refuses};
-ghost use Rattle.message.specs.Values.{spelled};
-ghost use Rattle.message.specs.Bounds.{Between};
+ghost use Rattle.values.specs.Values.{spelled};
+ghost use Rattle.values.specs.Bounds.{Between};
 use super::Name;
 use layout::fault::Fault;
 

@@ -1,5 +1,5 @@
 use Rattle.std.proofs.shelf.Equals.{matches-decides}
-use Rattle.message.proofs.octets.same_octets.Needs as need
+use Rattle.values.proofs.octets.same_octets.Needs as need
 
 pub returns : need.returns
 returns c = matches-decides _ _ _ (c .eq .ensures)
