@@ -49,7 +49,7 @@ has-way headed-len header-fault heard-as heard-octet image-add image-appended im
 image-removed in-front indicated-alike is-ahead is-ip is-listed is-unlisted item-octets kept-carrying kept-key kept-rows keys-drop
 keys-removed left-added left-of left-sound link-of long-at long-part looked-at looked-by looked-cond looked-first looked-none
 looked-out looked-push looked-put looked-up map-counting-alike may-use message-in message-of message-written needed-fault
-needs-address needs-at-zero no-octet nth-place number-if octet-alike octet-at octet-first octet-of octet-step octet-then
+needs-address needs-at-zero no-connection no-octet no-tunnel nth-place number-if octet-alike octet-at octet-first octet-of octet-step octet-then
 octet-value octets-in of-countdown of-moments of-ring onward-same onward-whole open-len open-memory opened-none opened-octets
 opened-sound others-in out-by out-distinct out-gone out-rows over-before over-len part-is part-octets parts-appended past-octet
 past-place past-white place-first place-from place-there places-apart point-code points-in put-at put-by put-distinct put-rows

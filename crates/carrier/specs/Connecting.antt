@@ -21,5 +21,5 @@ connected_to c g k p =
 -- where a try to connect ends
 pub data Connects (c : Carried) (g k : List ℕ) (p : ℕ) (r : Result Unit Missed) (d : Carried) : Type 0 where
   connected : has_way c g ≡ true → c.answers k ≡ true → is_ok r ≡ true → d ≡ connected_to c g k p → Connects c g k p r d
-  no-connection : has_way c g ≡ true → c.answers k ≡ false → r ≡ Err Controller → d ≡ tunnelled_to c g → Connects c g k p r d
-  no-tunnel : has_way c g ≡ false → r ≡ Err Gateway → d ≡ dropped c → Connects c g k p r d
+  no_connection : has_way c g ≡ true → c.answers k ≡ false → r ≡ Err Controller → d ≡ tunnelled_to c g → Connects c g k p r d
+  no_tunnel : has_way c g ≡ false → r ≡ Err Gateway → d ≡ dropped c → Connects c g k p r d

@@ -1,3 +1,4 @@
+#![tactic(auto)]
 //! Takes messages apart, one a line in hexadecimal, and prints their elements or why they are refused.
 
 mod address;

@@ -1,3 +1,4 @@
+#![tactic(auto)]
 //! The reading of messages that are heard. Nothing here knows a state.
 
 pub mod heard;

@@ -1,3 +1,4 @@
+#![tactic(auto)]
 //! A carrier in lent memory: messages wait in places that are used in a ring.
 
 pub mod lent;

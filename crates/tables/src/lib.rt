@@ -1,3 +1,4 @@
+#![tactic(auto)]
 //! The lists that a mobile station keeps, and rows found by their keys in any list.
 
 pub mod addresses;

@@ -1,3 +1,4 @@
+#![tactic(auto)]
 //! Octets as hexadecimal text.
 
 ghost use Rattle.std.specs.Prelude.{◌≡◌, ◌<◌, length, IfOk};

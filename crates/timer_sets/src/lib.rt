@@ -1,3 +1,4 @@
+#![tactic(auto)]
 //! Two sets of timers: ticks that are counted down, and moments of a clock.
 
 mod by_timer;

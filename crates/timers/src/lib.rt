@@ -1,3 +1,4 @@
+#![tactic(auto)]
 //! The timers of a mobile station: what a set of timers does, and what can be done with any.
 
 pub mod acts;

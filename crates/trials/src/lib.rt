@@ -1,3 +1,4 @@
+#![tactic(auto)]
 //! Runs of the same acts over every carrier and every set of timers, and lists worked out by hand.
 
 #[cfg(test)]

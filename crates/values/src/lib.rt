@@ -1,3 +1,4 @@
+#![tactic(auto)]
 //! What messages carry: access points, identities, names and addresses, and the forms of the listed elements.
 
 pub mod access_point;

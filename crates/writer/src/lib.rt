@@ -1,3 +1,4 @@
+#![tactic(auto)]
 //! Messages that are written in lent memory.
 
 pub mod laws;
