@@ -9,7 +9,7 @@ use crate::timer_set::TimerSet;
 
 /// Turns every timer off.
 pub fn stop_all<T: TimerSet>(timers: &mut T)
-    ensures { timed timers.new ≡ off }
+    ensures { T.timed timers.new ≡ off }
 {
     timers.stop(Timer::Tu3904);
     timers.stop(Timer::Tu3906);
@@ -20,7 +20,7 @@ pub fn stop_all<T: TimerSet>(timers: &mut T)
 /// Starts a timer and turns the others off, if it can be started with so many ticks; otherwise changes nothing.
 pub fn run_only<T: TimerSet>(timers: &mut T, timer: Timer, ticks: u32) -> bool
     ensures answer { result ≡ startable ticks }
-    ensures leaves { timed timers.new ≡ cond result (only timer ticks) (timed timers.old) }
+    ensures leaves { T.timed timers.new ≡ cond result (only timer ticks) (T.timed timers.old) }
 {
     if !can_start(ticks) {
         return false;
@@ -31,7 +31,7 @@ pub fn run_only<T: TimerSet>(timers: &mut T, timer: Timer, ticks: u32) -> bool
 
 /// Lets so many ticks pass.
 pub fn pass<T: TimerSet>(timers: &mut T, ticks: u32)
-    ensures { timed timers.new ≡ passed ticks (timed timers.old) }
+    ensures { T.timed timers.new ≡ passed ticks (T.timed timers.old) }
 {
     for _ in 0..ticks {
         timers.tick();
@@ -40,8 +40,8 @@ pub fn pass<T: TimerSet>(timers: &mut T, ticks: u32)
 
 /// Lets ticks pass until a timer is off, and says how many.
 pub fn run_out<T: TimerSet>(timers: &mut T, timer: Timer) -> u32
-    ensures answer { result ≡ left_of (timed timers.old) timer }
-    ensures leaves { timed timers.new ≡ passed result (timed timers.old) }
+    ensures answer { result ≡ left_of (T.timed timers.old) timer }
+    ensures leaves { T.timed timers.new ≡ passed result (T.timed timers.old) }
 {
     let mut ticks = 0;
     let mut running = timers.left(timer) > 0;

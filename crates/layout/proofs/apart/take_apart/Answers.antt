@@ -6,5 +6,5 @@ pub returns : goal.returns
 returns c =
     record {
       answer = search rules;
-      again = whole c.args.message.now (λ i. omega (arith, c.type-inv.message i)) c.in-ok-check-header.ensures.1 c.in-ok-check-elements.ensures.0;
+      again = whole c.args.message.now (λ i. omega (arith, c.type_inv.message i)) c.in_ok-check_header.ensures.1 c.in_ok-check_elements.ensures.0;
     }
