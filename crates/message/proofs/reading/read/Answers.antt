@@ -3,5 +3,5 @@ use Rattle.message.proofs.reading.read.Goals as goal
 
 pub returns : goal.returns
 returns c =
-    read_whole c.args.message.now c.in-ok-heard.heard c.read-values.result
-    c.in-ok-check-header.ensures.0 c.in-ok-heard.ensures c.in-ok-check-elements.ensures.0 c.read-values.ensures
+    read_whole c.args.message.now c.in_ok-heard.heard c.read_values.result
+    c.in_ok-check_header.ensures.0 c.in_ok-heard.ensures c.in_ok-check_elements.ensures.0 c.read_values.ensures

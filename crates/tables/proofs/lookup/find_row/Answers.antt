@@ -4,7 +4,7 @@ use Rattle.tables.proofs.lookup.find_row.Goals as goal
 
 pub returns-then-place-rows : goal.returns-then-place-rows
 returns-then-place-rows g c =
-    let first = c.rows-before-place.ensures in
+    let first = c.rows_before-place.ensures in
     record {
       within = omega arith;
       is = sym (place_first g.R.Row.coded _ c.args.rows.now _ (omega arith) first.misses (first.hits (omega arith)));

@@ -1,8 +1,8 @@
 use Rattle.tables.proofs.Meanings.{add_rows, add_there, add_distinct}
 use Rattle.tables.proofs.exclude.ExcludeList.add.Goals as goal
 
-pub invariant-of-self : goal.invariant-of-self
-invariant-of-self c =
+pub invariant_of-self : goal.invariant_of-self
+invariant_of-self c =
     (c.add.ensures.len, (add_distinct c.args.self.now.rows c.add.new.self c.args.point c.add.ensures.held c.args.self.now.distinct, tt))
 
 pub returns : goal.returns

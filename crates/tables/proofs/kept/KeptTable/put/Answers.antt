@@ -1,8 +1,8 @@
 use Rattle.tables.proofs.Meanings.{put_rows, put_there, put_distinct}
 use Rattle.tables.proofs.kept.KeptTable.put.Goals as goal
 
-pub invariant-of-self : goal.invariant-of-self
-invariant-of-self c =
+pub invariant_of-self : goal.invariant_of-self
+invariant_of-self c =
     (c.put.ensures.len, (put_distinct c.args.self.now.rows c.put.new.self c.args.entry c.put.ensures.held c.args.self.now.distinct, tt))
 
 pub returns : goal.returns

@@ -2,16 +2,16 @@ use Rattle.values.specs.Values.{point}
 use Rattle.tables.proofs.Meanings.{out_rows, out_gone, out_distinct}
 use Rattle.tables.proofs.kept.KeptTable.remove.Goals as goal
 
-pub invariant-of-self : goal.invariant-of-self
-invariant-of-self c = (
-  c.take-out.ensures.len,
-  (out_distinct c.args.self.now.rows c.take-out.new.self (point c.args.key.now) c.take-out.ensures.held c.args.self.now.distinct, tt),
+pub invariant_of-self : goal.invariant_of-self
+invariant_of-self c = (
+  c.take_out.ensures.len,
+  (out_distinct c.args.self.now.rows c.take_out.new.self (point c.args.key.now) c.take_out.ensures.held c.args.self.now.distinct, tt),
 )
 
 pub returns : goal.returns
 returns c =
     record {
-      rows = out_rows c.args.self.now.rows c.take-out.new.self (point c.args.key.now) c.take-out.ensures.held;
+      rows = out_rows c.args.self.now.rows c.take_out.new.self (point c.args.key.now) c.take_out.ensures.held;
       gone =
-          out_gone c.args.self.now.rows c.take-out.new.self (point c.args.key.now) c.take-out.ensures.held c.args.self.now.distinct;
+          out_gone c.args.self.now.rows c.take_out.new.self (point c.args.key.now) c.take_out.ensures.held c.args.self.now.distinct;
     }

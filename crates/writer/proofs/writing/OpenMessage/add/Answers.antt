@@ -2,8 +2,8 @@ use Rattle.std.proofs.Common.{◌≡◌, sym}
 use Rattle.writer.proofs.Drafting.{left_sound, left_added}
 use Rattle.writer.proofs.writing.OpenMessage.add.Goals as goal
 
-pub invariant-of-self : goal.invariant-of-self
-invariant-of-self c =
+pub invariant_of-self : goal.invariant_of-self
+invariant_of-self c =
     (left_sound c.put.result c.args.self.now.page.memory.now c.args.value.now _ c.args.self.now.page.len c.args.id _ c.args.self.now.sound c.put.ensures.cases, tt)
 
 pub returns : goal.returns

@@ -5,18 +5,18 @@ use Rattle.writer.specs.Drafts.{Sendable}
 use Rattle.writer.proofs.Closing.{closed_apart, closed_octets, closed_sendable, closed_walk}
 use Rattle.writer.proofs.writing.OpenMessage.close.Goals as goal
 
-pub invariant-of-result : goal.invariant-of-result
-invariant-of-result c =
+pub invariant_of-result : goal.invariant_of-result
+invariant_of-result c =
     let n = c.args.self.page.len in
     let P : List ℕ → Type 0 = λ m. Sendable m n in
-    (subst P (sym c.write-indicator.ensures) (closed_sendable c.args.self.page.memory.now n c.args.self.sound), tt)
+    (subst P (sym c.write_indicator.ensures) (closed_sendable c.args.self.page.memory.now n c.args.self.sound), tt)
 
 pub returns : goal.returns
 returns c =
     let m = c.args.self.page.memory.now in
     let n = c.args.self.page.len in
     let s = c.args.self.sound in
-    let e = c.write-indicator.ensures in
+    let e = c.write_indicator.ensures in
     record {
       name = search rules;
       memory = e;

@@ -4,14 +4,14 @@ use Rattle.writer.specs.Drafts.{Sound}
 use Rattle.writer.proofs.Drafting.{opened_none, opened_octets, opened_sound}
 use Rattle.writer.proofs.writing.OpenMessage.open.Goals as goal
 
-pub invariant-of-result : goal.invariant-of-result
-invariant-of-result c =
+pub invariant_of-result : goal.invariant_of-result
+invariant_of-result c =
     let P : List ℕ → Type 0 = λ m. Sound m 4 in
-    (subst P (sym c.write-head.ensures) (opened_sound c.args.memory.now c.args.type_octet c.requires), tt)
+    (subst P (sym c.write_head.ensures) (opened_sound c.args.memory.now c.args.type_octet c.requires), tt)
 
 pub returns : goal.returns
 returns c =
-    let e = c.write-head.ensures in
+    let e = c.write_head.ensures in
     record {
       name = search rules;
       memory = e;
