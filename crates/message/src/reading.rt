@@ -39,7 +39,7 @@ fn missing(message: &[u8], id: u8) -> Fault
 
 // The value of a needed element.
 fn needed<V: Value>(message: &[u8], id: u8) -> Result<V, Fault>
-    ensures { Answers (needed_fault form message.now id (first message.now id)) (λ v. held (first message.now id) ≡ v) result }
+    ensures { Answers (needed_fault V.form message.now id (first message.now id)) (λ v. V.held (first message.now id) ≡ v) result }
 {
     match find(message, id) {
         Some(element) => V::of(element),
@@ -49,7 +49,7 @@ fn needed<V: Value>(message: &[u8], id: u8) -> Result<V, Fault>
 
 // The value of an element that may be absent.
 fn used<V: Value>(message: &[u8], id: u8) -> Result<Option<V>, Fault>
-    ensures { Answers (used_fault form id (first message.now id)) (λ v. option_map (λ p. held (Some p)) (first message.now id) ≡ v) result }
+    ensures { Answers (used_fault V.form id (first message.now id)) (λ v. option_map (λ p. V.held (Some p)) (first message.now id) ≡ v) result }
 {
     match find(message, id) {
         Some(element) => Ok(Some(V::of(element)?)),

@@ -3,7 +3,10 @@ use Rattle.tables.proofs.exclude.ExcludeList.add.Goals as goal
 
 pub invariant_of-self : goal.invariant_of-self
 invariant_of-self c =
-    (c.add.ensures.len, (add_distinct c.args.self.now.rows c.add.new.self c.args.point c.add.ensures.held c.args.self.now.distinct, tt))
+    record {
+      within = c.add.ensures.len;
+      distinct = add_distinct c.args.self.now.rows c.add.new.self c.args.point c.add.ensures.held c.args.self.now.distinct;
+    }
 
 pub returns : goal.returns
 returns c =

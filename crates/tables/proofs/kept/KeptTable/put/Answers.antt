@@ -3,7 +3,10 @@ use Rattle.tables.proofs.kept.KeptTable.put.Goals as goal
 
 pub invariant_of-self : goal.invariant_of-self
 invariant_of-self c =
-    (c.put.ensures.len, (put_distinct c.args.self.now.rows c.put.new.self c.args.entry c.put.ensures.held c.args.self.now.distinct, tt))
+    record {
+      within = c.put.ensures.len;
+      distinct = put_distinct c.args.self.now.rows c.put.new.self c.args.entry c.put.ensures.held c.args.self.now.distinct;
+    }
 
 pub returns : goal.returns
 returns c =

@@ -10,4 +10,4 @@ pub loop-at-preserved : goal.loop-at-preserved
 loop-at-preserved g c = search (rules, moved_more)
 
 pub returns : goal.returns
-returns g c = record { held = moved_all _ _ _ _ c.loop-at.at (omega arith) (omega arith) (omega (arith, c.loop-at.auto.at_end (omega arith))) c.loop-at.invariant.1; len = omega arith; gone = search (rules, get_or-take, get_or_default) }
+returns g c = record { held = moved_all _ _ _ _ c.loop-at.at (omega arith) (omega arith) (omega (arith, c.loop-at.auto.at-end (omega arith))) c.loop-at.invariant.1; len = omega arith; gone = search (rules, get_or-take, get_or_default) }
