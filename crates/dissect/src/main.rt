@@ -14,20 +14,18 @@ mod shown;
 use crate::report::Report;
 use anyhow::anyhow;
 use std::io::{BufRead, BufReader};
+use std::process::ExitCode;
 use std::{env, fs, io};
 use text::{Line, read_line};
 
-/// Something was wrong, and has been said.
-#[derive(Drop)]
-struct Failed;
-
-fn main(rt: HostRuntime) -> Result<(), Failed> {
+// What was wrong has been said when it ends with status 1.
+fn main(rt: HostRuntime) -> ExitCode {
     match run(&rt) {
-        Ok(true) => Ok(()),
-        Ok(false) => Err(Failed),
+        Ok(true) => ExitCode::SUCCESS,
+        Ok(false) => ExitCode::FAILURE,
         Err(error) => {
             let _ = eprintln!(rt; "dissect: {error}");
-            Err(Failed)
+            ExitCode::FAILURE
         }
     }
 }

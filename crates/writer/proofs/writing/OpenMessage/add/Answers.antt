@@ -4,7 +4,9 @@ use Rattle.writer.proofs.writing.OpenMessage.add.Goals as goal
 
 pub invariant_of-self : goal.invariant_of-self
 invariant_of-self c =
-    (left_sound c.put.result c.args.self.now.page.memory.now c.args.value.now _ c.args.self.now.page.len c.args.id _ c.args.self.now.sound c.put.ensures.cases, tt)
+    record {
+      sound = left_sound c.put.result c.args.self.now.page.memory.now c.args.value.now _ c.args.self.now.page.len c.args.id _ c.args.self.now.sound c.put.ensures.cases;
+    }
 
 pub returns : goal.returns
 returns c =

@@ -9,7 +9,7 @@ pub invariant_of-result : goal.invariant_of-result
 invariant_of-result c =
     let n = c.args.self.page.len in
     let P : List ℕ → Type 0 = λ m. Sendable m n in
-    (subst P (sym c.write_indicator.ensures) (closed_sendable c.args.self.page.memory.now n c.args.self.sound), tt)
+    record { sendable = subst P (sym c.write_indicator.ensures) (closed_sendable c.args.self.page.memory.now n c.args.self.sound) }
 
 pub returns : goal.returns
 returns c =

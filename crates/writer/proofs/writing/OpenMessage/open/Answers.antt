@@ -7,7 +7,7 @@ use Rattle.writer.proofs.writing.OpenMessage.open.Goals as goal
 pub invariant_of-result : goal.invariant_of-result
 invariant_of-result c =
     let P : List ℕ → Type 0 = λ m. Sound m 4 in
-    (subst P (sym c.write_head.ensures) (opened_sound c.args.memory.now c.args.type_octet c.requires), tt)
+    record { sound = subst P (sym c.write_head.ensures) (opened_sound c.args.memory.now c.args.type_octet c.requires) }
 
 pub returns : goal.returns
 returns c =
