@@ -24,7 +24,7 @@ pub fn connect<C: Carrier>(
     controller: &Address,
     port: u16,
 ) -> Result<(), Missed>
-    ensures { Connects (carried carrier.old) (coded gateway.now) (coded controller.now) port result (carried carrier.new) }
+    ensures { Connects (C.carried carrier.old) (coded gateway.now) (coded controller.now) port result (C.carried carrier.new) }
 {
     carrier.close();
     if !(*carrier).tunnelled(gateway) {

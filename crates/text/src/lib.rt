@@ -91,7 +91,7 @@ mod tests {
         let Line::Octets(octets) = read_line(rt.alloc(), b"\t00 0905fF # a comment\r")? else {
             return Err(Fail::new("no octets"));
         };
-        assert_eq!(rt; octets.as_slice(), &[0x00, 0x09, 0x05, 0xff]);
+        assert_eq!(rt; octets.as_slice(), [0x00, 0x09, 0x05, 0xff].as_slice());
         Ok(())
     }
 
