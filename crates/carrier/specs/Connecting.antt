@@ -1,5 +1,5 @@
 -- A way to a controller, whatever stood before.
-use Rattle.std.specs.Prelude.{◌≡◌, ℕ, Bool, true, false, ◌||◌, List, is_ok, Some, None, Ok, Err, Result}
+use Rattle.std.specs.Prelude.{◌≡◌, ℕ, Bool, true, false, ◌||◌, List, is_ok, Some, None, Err, Result}
 use Rattle.carrier.specs.Carried.{Carried, stands, dropped}
 use Rattle.carrier.specs.declared.acts.Missed.{Missed}
 use Rattle.carrier.specs.declared.acts.Missed.TheVariants.{Gateway, Controller}

@@ -1,9 +1,9 @@
 -- A walk over a message, one element at a time.
-use Rattle.std.proofs.Common.{◌≡◌, ℕ, zero, suc, ◌+◌, ◌-◌, ◌<◌, ◌≤◌, Bool, true, false, cond, ltb, List, [], ◌∷◌, length, get_or, take, drop, Some, None, Ok, Err, Option, Result, sym, refl, ap, ◌∙◌, arith}
+use Rattle.std.proofs.Common.{◌≡◌, ℕ, zero, suc, ◌+◌, ◌-◌, ◌<◌, ◌≤◌, Bool, true, false, cond, ltb, List, length, Ok, Err, Result, refl, ap, ◌∙◌, arith}
 use Rattle.std.proofs.lemmas.Bool.Decides.{nat_tests}
 use Rattle.std.proofs.lemmas.List.{length-take, length-drop}
 use Rattle.layout.specs.declared.fault.Fault.{Fault}
-use Rattle.layout.specs.Elements.{Part, Walk, end, bad, more, onward, walk_by, walk, element_at, valued, past, parts, fault_in}
+use Rattle.layout.specs.Elements.{Part, Walk, end, bad, more, onward, walk_by, walk, element_at, valued, past}
 
 -- a value lies within the message
 valued_past : (m : List ℕ) (at start len : ℕ) (p : Part) → start ≤ length m → valued m at start len ≡ Ok p → (p.start ≡ start) × (length p.value ≡ len) × (start + len ≤ length m)

@@ -3,7 +3,6 @@ use Rattle.std.specs.Prelude.{◌≡◌, ℕ, ◌+◌, ◌*◌, cond, List, [], 
 use Rattle.std.specs.Option.{option_map}
 use Rattle.layout.specs.declared.fault.Fault.{Fault}
 use Rattle.layout.specs.declared.fault.Fault.TheVariants.{Unheard, Missing, Malformed}
-use Rattle.values.specs.declared.address.Address.{Address}
 use Rattle.message.specs.declared.types.HeardType.{HeardType}
 use Rattle.message.specs.declared.types.HeardType.TheVariants.{RegisterAccept as accept, RegisterRedirect as redirect, RegisterReject as reject, Deregister as deregister, Release as release, DownlinkDirectTransfer as downlink, RequestAccept as request-accept, RequestReject as request-reject}
 use Rattle.message.specs.declared.heard.Heard.{Heard}

@@ -1,5 +1,5 @@
 -- What holds of every carrier over sound places.
-use Rattle.std.proofs.Common.{◌≡◌, ℕ, ◌≤◌, Bool, true, List, length, is_some, refl, arith}
+use Rattle.std.proofs.Common.{◌≡◌, ℕ, Bool, true, List, is_some, refl, arith}
 use Rattle.carrier.specs.Carried.{Kept}
 use Rattle.carrier.specs.Links.{gateway_of, link_of}
 use Rattle.carrier.specs.declared.path.Path.{Path}

@@ -1,5 +1,4 @@
 -- What a ring means.
-use Rattle.std.specs.Prelude.{ℕ, Bool, List}
 use Rattle.tables.specs.Addresses.{is_listed}
 use Rattle.carrier.specs.Carried.{Carried}
 use Rattle.carrier.specs.Links.{carrying}

@@ -1,5 +1,5 @@
 -- The listed elements, and what the value of each is.
-use Rattle.std.specs.Prelude.{ℕ, Bool, true, false, cond, ◌&&◌, ◌||◌, List, [], ◌∷◌, length, ◌==◌, nat_le, slice_index}
+use Rattle.std.specs.Prelude.{ℕ, Bool, false, cond, ◌&&◌, ◌||◌, List, [], ◌∷◌, length, ◌==◌, nat_le, slice_index}
 use Rattle.values.specs.declared.form.Form.{Form}
 use Rattle.values.specs.declared.form.Form.TheVariants.{Octets, Ip, Unlisted}
 

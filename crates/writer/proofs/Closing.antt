@@ -1,12 +1,12 @@
 -- A message that is closed: only its length indicator is written.
-use Rattle.std.proofs.Common.{◌≡◌, ℕ, zero, suc, ◌+◌, ◌-◌, ◌*◌, ◌/◌, ◌%◌, ◌<◌, ◌≤◌, Bool, true, false, cond, eqb, ltb, ◌≢◌, List, [], ◌∷◌, ◌++◌, length, get_or, take, drop, set, is_some, Some, None, Ok, Err, Option, Result, sym, refl, ap, ◌∙◌, add-zero, div-add-mod', arith, rules}
+use Rattle.std.proofs.Common.{◌≡◌, ℕ, zero, suc, ◌+◌, ◌-◌, ◌*◌, ◌/◌, ◌%◌, ◌<◌, ◌≤◌, true, false, cond, eqb, ltb, ◌≢◌, List, [], ◌∷◌, length, get_or, take, drop, set, is_some, Some, None, Option, Result, sym, refl, ap, ◌∙◌, div-add-mod', arith}
 use Rattle.std.proofs.lemmas.Bool.Decides.{nat_tests}
-use Rattle.std.proofs.lemmas.List.{same_lists, places, get_or-drop, drop-drop, length-set, length-take-le, get_or-take, get_or-set_same, get_or-set_other, drop-set-lt}
+use Rattle.std.proofs.lemmas.List.{get_or-drop, length-set, length-take-le, get_or-take, get_or-set_same, get_or-set_other, drop-set-lt}
 use Rattle.std.proofs.lemmas.Slice.{between_is}
 use Rattle.layout.specs.declared.fault.Fault.{Fault}
-use Rattle.writer.specs.Drafts.{Held, Whole, Sound, Sendable, indicated}
-use Rattle.layout.specs.Elements.{Part, Walk, end, bad, more, onward, walk_by, walk, element_at, wide, past, parts, fault_in}
-use Rattle.layout.specs.Layout.{apart_fault, header_fault, size_fault, discriminator_fault, then_check, indicator, counted}
+use Rattle.writer.specs.Drafts.{Sound, Sendable, indicated}
+use Rattle.layout.specs.Elements.{Part, end, onward, walk_by, walk, element_at, past, fault_in}
+use Rattle.layout.specs.Layout.{apart_fault, indicator, counted}
 use Rattle.layout.proofs.Steps.{past_place, cond_same, onward_same}
 
 -- two messages of one length with the same octets from `at` on

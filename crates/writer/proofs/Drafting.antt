@@ -1,18 +1,18 @@
 -- A message that is opened and written.
-use Rattle.std.proofs.Common.{◌≡◌, ℕ, ◌+◌, ◌<◌, ◌≤◌, true, false, ◌≢◌, ◌⊎◌, List, [], ◌∷◌, ◌++◌, length, get_or, take, drop, set, is_some, Some, None, Ok, Err, Result, sym, refl, ap, ◌∙◌, subst, inl, inr, arith, rules, MatchResult}
+use Rattle.std.proofs.Common.{◌≡◌, ℕ, ◌+◌, ◌<◌, ◌≤◌, true, ◌≢◌, List, [], ◌∷◌, ◌++◌, length, get_or, take, drop, is_some, Ok, Err, Result, sym, refl, ap, ◌∙◌, subst, inr, arith, rules, MatchResult}
 use Rattle.std.proofs.lemmas.Bool.Decides.{nat_tests}
-use Rattle.std.proofs.lemmas.List.{places, length-set, length-take-le, length-append, length-drop, get_or-set_same, get_or-set_other, get_or_append_left, get_or-take, take_at, drop-append-le, append_assoc}
+use Rattle.std.proofs.lemmas.List.{places, length-set, length-take-le, length-append, get_or-set_same, get_or-set_other, get_or_append_left, get_or-take, take_at, drop-append-le, append_assoc}
 use Rattle.layout.specs.declared.fault.Fault.{Fault}
 use Rattle.writer.specs.declared.writing.OpenMessage.{OpenMessage}
-use Rattle.writer.specs.Drafts.{Held, Whole, Sound, headed}
+use Rattle.writer.specs.Drafts.{Sound, headed}
 use Rattle.layout.specs.Faults.{Refuses}
-use Rattle.layout.specs.Elements.{Part, walk, parts, fault_in, elements, element_octets}
+use Rattle.layout.specs.Elements.{walk, parts, fault_in, elements, element_octets}
 use Rattle.writer.specs.Octets.{over}
 use Rattle.message.specs.Types.{discriminator_of}
 use Rattle.values.specs.Forms.{form_of, has_form}
 use Rattle.writer.specs.Writing.{placed, open_memory, open_len, Added, Unfit, Unchanged}
 use Rattle.writer.proofs.Closing.{none_from}
-use Rattle.writer.proofs.Grown.{Grown, grown}
+use Rattle.writer.proofs.Grown.{grown}
 use Rattle.layout.proofs.Steps.{walk_end}
 
 four : (m : List ℕ) → 512 ≤ length m → length (take 4 m) ≡ 4

@@ -1,14 +1,14 @@
 -- A message that grows by an element at its end.
-use Rattle.std.proofs.Common.{◌≡◌, ℕ, zero, suc, ◌+◌, ◌-◌, ◌*◌, ◌/◌, ◌%◌, ◌<◌, ◌≤◌, Bool, true, false, cond, ltb, ◌⊎◌, List, [], ◌∷◌, ◌++◌, length, get_or, take, drop, Some, None, Ok, Err, Option, Result, sym, refl, ap, ◌∙◌, inl, inr, ⊎_elim, add-zero, div-add-mod', arith, rules}
+use Rattle.std.proofs.Common.{◌≡◌, ℕ, zero, suc, ◌+◌, ◌-◌, ◌*◌, ◌/◌, ◌%◌, ◌<◌, ◌≤◌, ◌⊎◌, List, [], ◌∷◌, ◌++◌, length, get_or, take, drop, Some, None, Ok, Err, Result, sym, refl, ap, ◌∙◌, inl, inr, ⊎_elim, div-add-mod', arith}
 use Rattle.std.proofs.lemmas.Bool.Decides.{nat_tests}
 use Rattle.std.proofs.lemmas.Bool.{cases_lt}
-use Rattle.std.proofs.lemmas.List.{places, get_or_append_left, get_or-append-add, get_or_at, drop-append-le, take-append-le, drop_at, drop-drop, take_all, length-append, length-drop, append_assoc}
+use Rattle.std.proofs.lemmas.List.{get_or_append_left, get_or-append-add, get_or_at, drop-append-le, take-append-le, drop_at, drop-drop, take_all, length-append, length-drop}
 use Rattle.layout.specs.declared.fault.Fault.{Fault}
-use Rattle.layout.specs.Elements.{Part, Walk, end, bad, more, walk, element_at, valued, wide, past, parts, fault_in, element_octets, size_octets}
+use Rattle.layout.specs.Elements.{Part, Walk, end, bad, more, walk, element_at, wide, past, parts, fault_in, element_octets, size_octets}
 use Rattle.writer.specs.Writing.{placed}
 use Rattle.layout.proofs.Sizes.{size_small, size_large}
 use Rattle.layout.proofs.Steps.{walk_end, walk_ok, walk_bad, past_place}
-use Rattle.layout.proofs.Whole.{Short, Long, short_part, long_part, ways}
+use Rattle.layout.proofs.Whole.{short_part, long_part, ways}
 
 -- what stands at a place whose octets are known
 pub short_at : (m : List ℕ) (at : ℕ) → get_or m (at + 1) 0 < 128 → at + 2 + get_or m (at + 1) 0 ≤ length m → element_at m at ≡ Ok (short_part m at)

@@ -1,11 +1,10 @@
 -- A message of any elements is taken apart into them.
-use Rattle.std.proofs.Common.{◌≡◌, ℕ, ◌+◌, ◌*◌, ◌/◌, ◌%◌, ◌<◌, ◌≤◌, List, [], ◌∷◌, ◌++◌, map, length, None, sym, refl, ap, ◌∙◌, div-add-mod', arith}
+use Rattle.std.proofs.Common.{◌≡◌, ℕ, ◌/◌, ◌%◌, ◌≤◌, List, [], ◌∷◌, ◌++◌, map, length, None, sym, ap, ◌∙◌, div-add-mod', arith}
 use Rattle.std.specs.List.{flat_map}
 use Rattle.std.proofs.lemmas.List.{append_assoc, append-nil, map-append, length-append}
 use Rattle.layout.specs.Elements.{Part, walk, parts, fault_in, elements}
-use Rattle.layout.specs.Layout.{apart_fault, counted, indicator}
 use Rattle.layout.proofs.Steps.{walk_end}
-use Rattle.writer.specs.Laws.{Item, item_octets, bare, message, ReadBack, WrittenIsRead}
+use Rattle.writer.specs.Laws.{Item, item_octets, bare, message, WrittenIsRead}
 use Rattle.writer.proofs.Closing.{clear}
 use Rattle.writer.proofs.Grown.{grown}
 

@@ -1,5 +1,5 @@
 -- The law of the writer: what is written is read.
-use Rattle.std.specs.Prelude.{◌≡◌, ℕ, ◌<◌, ◌≤◌, List, [], ◌∷◌, map, length, None}
+use Rattle.std.specs.Prelude.{◌≡◌, ℕ, ◌<◌, ◌≤◌, List, ◌∷◌, map, length, None}
 use Rattle.std.specs.List.{flat_map}
 use Rattle.layout.specs.Elements.{Part, elements, element_octets}
 use Rattle.layout.specs.Layout.{apart_fault, counted}

@@ -1,4 +1,3 @@
-use Rattle.std.proofs.Common.{rules}
 use Rattle.ring.proofs.Rings.{Sound-freed, queue_freed}
 use Rattle.ring.proofs.places.Places.free_first.Goals as goal
 

@@ -1,4 +1,4 @@
-use Rattle.std.proofs.Common.{◌≡◌, sym}
+use Rattle.std.proofs.Common.{sym}
 use Rattle.writer.proofs.Drafting.{left_sound, left_added}
 use Rattle.writer.proofs.writing.OpenMessage.add.Goals as goal
 

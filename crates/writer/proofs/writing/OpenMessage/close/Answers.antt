@@ -1,4 +1,4 @@
-use Rattle.std.proofs.Common.{◌≡◌, ℕ, List, take, sym, refl, ap, ◌∙◌, subst, arith, rules}
+use Rattle.std.proofs.Common.{ℕ, List, take, sym, refl, ap, ◌∙◌, subst, arith, rules}
 use Rattle.layout.specs.Elements.{walk, parts}
 use Rattle.layout.specs.Layout.{apart_fault}
 use Rattle.writer.specs.Drafts.{Sendable}

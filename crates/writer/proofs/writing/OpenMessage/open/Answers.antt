@@ -1,4 +1,4 @@
-use Rattle.std.proofs.Common.{◌≡◌, ℕ, List, take, drop, sym, refl, ap, ◌∙◌, subst, rules}
+use Rattle.std.proofs.Common.{ℕ, List, take, drop, sym, refl, ap, ◌∙◌, subst, rules}
 use Rattle.layout.specs.Elements.{elements}
 use Rattle.writer.specs.Drafts.{Sound}
 use Rattle.writer.proofs.Drafting.{opened_none, opened_octets, opened_sound}
