@@ -53,7 +53,7 @@ needs-address needs-at-zero no-connection no-octet no-tunnel nth-place number-if
 octet-value octets-in of-countdown of-moments of-ring onward-same onward-whole open-len open-memory opened-none opened-octets
 opened-sound others-in out-by out-distinct out-gone out-rows over-before over-len part-is part-octets parts-appended past-octet
 past-place past-white place-first place-from place-there places-apart point-code points-in put-at put-by put-distinct put-rows
-put-there queue-freed queue-none queue-put queue-sized queue-split read-fault result-cases short-at short-part size-fault size-large
+put-there queue-freed queue-none queue-put queue-sized queue-split read-fault request-accept request-reject result-cases short-at short-part size-fault size-large
 size-octets size-wide size-written sized-then some-place sound-as taken-length then-check three-then ticks-between ticks-to to-gateway
 tunnelled-to type-fault type-heard type-in type-octet type-of type-uses use-fault used-fault uses-decide uses-fault value-then
 walk-alike walk-bad walk-by walk-by-alike walk-by-same walk-by-whole walk-ok white-at white-first white-step ys-size

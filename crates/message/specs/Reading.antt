@@ -4,7 +4,7 @@ use Rattle.std.specs.Option.{option_map}
 use Rattle.layout.specs.declared.fault.Fault.{Fault}
 use Rattle.layout.specs.declared.fault.Fault.TheVariants.{Unheard, Missing, Malformed}
 use Rattle.message.specs.declared.types.HeardType.{HeardType}
-use Rattle.message.specs.declared.types.HeardType.TheVariants.{RegisterAccept as accept, RegisterRedirect as redirect, RegisterReject as reject, Deregister as deregister, Release as release, DownlinkDirectTransfer as downlink, RequestAccept as request-accept, RequestReject as request-reject}
+use Rattle.message.specs.declared.types.HeardType.TheVariants.{RegisterAccept as accept, RegisterRedirect as redirect, RegisterReject as reject, Deregister as deregister, Release as release, DownlinkDirectTransfer as downlink, RequestAccept as request_accept, RequestReject as request_reject}
 use Rattle.message.specs.declared.heard.Heard.{Heard}
 use Rattle.message.specs.declared.heard.Heard.TheVariants.{RegisterAccept, RegisterRedirect, RegisterReject, Deregister, Release, DownlinkDirectTransfer, RequestAccept, RequestReject}
 use Rattle.message.specs.declared.heard.Rejection.{Rejection}
@@ -108,8 +108,8 @@ type_of (RegisterReject x) = reject
 type_of (Deregister x) = deregister
 type_of (Release c) = release
 type_of (DownlinkDirectTransfer s n) = downlink
-type_of RequestAccept = request-accept
-type_of (RequestReject c) = request-reject
+type_of RequestAccept = request_accept
+type_of (RequestReject c) = request_reject
 
 -- a rejection: cause 0 brings the wait
 abbrev pub Rejects : List ℕ → Rejection → Type 0
