@@ -4,6 +4,6 @@
 #[cfg(test)]
 mod carriers;
 #[cfg(test)]
-mod tables;
+mod lists;
 #[cfg(test)]
-mod timer_sets;
+mod timings;

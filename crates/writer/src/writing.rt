@@ -1,5 +1,6 @@
 //! Messages that are written in lent memory.
 
+ghost use Rattle.std.specs.Prelude.{IsTrue};
 ghost use Rattle.writer.specs.Drafts.{Sound, Sendable};
 
 /// Lent memory, and how many of its octets are written.
@@ -9,12 +10,12 @@ struct Page<'a> {
     len: usize,
 }
 
-/// What is owed while a message is open: that it be closed or struck out. No drop of it can be shown to be allowed.
-struct Owed {}
+/// What is owed while a message is open: that it be closed or struck out. Only what is settled may be dropped.
+struct Owed<const SETTLED: bool> {}
 
-impl Drop for Owed {
+impl<const SETTLED: bool> Drop for Owed<SETTLED> {
     fn drop(self)
-        requires { ⊥ }
+        requires { IsTrue SETTLED }
     {
         let Owed {} = self;
     }
@@ -24,7 +25,7 @@ impl Drop for Owed {
 #[derive(Drop)]
 pub struct OpenMessage<'a> {
     page: Page<'a>,
-    owed: Owed,
+    owed: Owed<false>,
     ghost sound: { Sound page.memory.now page.len },
 }
 

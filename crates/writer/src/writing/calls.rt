@@ -93,9 +93,10 @@ impl Page<'_> {
     }
 }
 
-impl Owed {
-    fn settle(self) {
+impl Owed<false> {
+    fn settle(self) -> Owed<true> {
         let Owed {} = self;
+        Owed {}
     }
 }
 
