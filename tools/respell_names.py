@@ -5,7 +5,9 @@ facts and types in camel case, and a dash only where it joins the names of two t
 usage: python3 tools/respell_names.py [--write]    at the top of the repository, once, after the kit's own port.py
 
 It was run once, when the repository moved from kit 8b to kit 13f; docs/PORT.md has the commits. It changes whole names alone, and
-neither comments nor strings nor the code of functions, whose names have no dash. It stops where two names would fall together.
+neither comments nor strings nor the code of functions, whose names have no dash. It stops where two names of one file of specs/ or
+proofs/ would fall together. A name that the check makes and that reads like one of ours is turned too: `auto.at-end` in one answer of
+`tables` was put back by hand.
 """
 
 import os

@@ -41,17 +41,21 @@ fn run(rt: &HostRuntime) -> anyhow::Result<bool> {
     }
     match path {
         None => Ok(dissect(rt, BufReader::new(rt.alloc(), rt.stdin())?)?),
-        Some(path) => {
-            let octets = read_file(rt, path.as_str())?;
-            Ok(dissect(rt, octets.as_slice())?)
-        }
+        Some(path) => match read_file(rt, path.as_str())? {
+            Some(octets) => Ok(dissect(rt, octets.as_slice())?),
+            None => Ok(false),
+        },
     }
 }
 
-fn read_file(rt: &HostRuntime, path: &str) -> anyhow::Result<Vec<u8>> {
+// The octets of a file, unless it cannot be read, which is said here: an `anyhow::Error` keeps no more than the start of a long text.
+fn read_file(rt: &HostRuntime, path: &str) -> io::Result<Option<Vec<u8>>> {
     match fs::read(rt, path) {
-        Ok(octets) => Ok(octets),
-        Err(error) => Err(anyhow!(format!(in rt.alloc(); "{path}: {error}")?)),
+        Ok(octets) => Ok(Some(octets)),
+        Err(error) => {
+            eprintln!(rt; "dissect: {path}: {error}")?;
+            Ok(None)
+        }
     }
 }
 
