@@ -4,6 +4,8 @@ use Rattle.std.specs.Str.{bytes_eq}
 use Rattle.layout.specs.Faults.{Refuses}
 use Rattle.layout.specs.declared.fault.Fault.{Fault}
 use Rattle.values.specs.Bounds.{Between}
+use Rattle.carrier.specs.declared.undone.Undone.{Undone}
+use Rattle.carrier.specs.declared.undone.Undone.TheVariants.{Tunnelled, NoTunnel, Connected, NoConnection, NoAnswer, NoPlace, Size}
 
 -- where a connection goes: the controller's address, as its code, and the port
 pub record Link : Type 0 where
@@ -50,20 +52,39 @@ sendable m = nat_le 4 (length m) && nat_le (length m) 512
 abbrev pub raises : Carried → List ℕ → Bool
 raises c g = not (is_some c.tunnel) && c.answers g
 
-abbrev pub opens : Carried → List ℕ → Bool
-opens c k = is_some c.tunnel && (not (is_some c.connection) && c.answers k)
+abbrev pub opens : Carried → Link → Bool
+opens c l = is_some c.tunnel && (not (is_some c.connection) && c.answers l.controller)
 
 abbrev pub sends : Carried → List ℕ → Bool
 sends c m = is_some c.connection && (room c && sendable m)
+
+-- why an act that does not succeed is not done: by the tunnel and the connection that stand, and by whether one more may wait
+abbrev pub why_not_raised : Option (List ℕ) → Undone
+why_not_raised (Some t) = Tunnelled
+why_not_raised None = NoAnswer
+
+abbrev pub why_not_opened : Option (List ℕ) → Option Link → Undone
+why_not_opened None l = NoTunnel
+why_not_opened (Some t) (Some l) = Connected
+why_not_opened (Some t) None = NoAnswer
+
+-- octets are not put behind those that wait, by whether there is room for them
+abbrev pub why_not_put : Bool → Undone
+why_not_put false = NoPlace
+why_not_put true = Size
+
+abbrev pub why_not_sent : Option Link → Bool → Undone
+why_not_sent None r = NoConnection
+why_not_sent (Some l) r = why_not_put r
 
 -- what each act changes
 abbrev pub raised : Carried → List ℕ → Carried
 raised c g =
     record { tunnel = Some g; connection = c.connection; waiting = c.waiting; places = c.places; answers = c.answers }
 
-abbrev pub opened : Carried → List ℕ → ℕ → Carried
-opened c k p =
-    record { tunnel = c.tunnel; connection = Some (record { controller = k; port = p }); waiting = c.waiting; places = c.places; answers = c.answers }
+abbrev pub opened : Carried → Link → Carried
+opened c l =
+    record { tunnel = c.tunnel; connection = Some l; waiting = c.waiting; places = c.places; answers = c.answers }
 
 abbrev pub sent : Carried → List ℕ → Carried
 sent c m =

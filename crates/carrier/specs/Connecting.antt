@@ -1,6 +1,6 @@
 -- A way to a controller, whatever stood before.
 use Rattle.std.specs.Prelude.{◌≡◌, ℕ, Bool, true, false, ◌||◌, List, is_ok, Some, None, Err, Result}
-use Rattle.carrier.specs.Carried.{Carried, stands, dropped}
+use Rattle.carrier.specs.Carried.{Carried, Link, stands, dropped}
 use Rattle.carrier.specs.declared.acts.Missed.{Missed}
 use Rattle.carrier.specs.declared.acts.Missed.TheVariants.{Gateway, Controller}
 
@@ -14,12 +14,12 @@ tunnelled_to c g =
     record { tunnel = Some g; connection = None; waiting = c.waiting; places = c.places; answers = c.answers }
 
 -- a tunnel to the gateway and a connection to the controller; nothing else changed
-abbrev pub connected_to : Carried → List ℕ → List ℕ → ℕ → Carried
-connected_to c g k p =
-    record { tunnel = Some g; connection = Some (record { controller = k; port = p }); waiting = c.waiting; places = c.places; answers = c.answers }
+abbrev pub connected_to : Carried → List ℕ → Link → Carried
+connected_to c g l =
+    record { tunnel = Some g; connection = Some l; waiting = c.waiting; places = c.places; answers = c.answers }
 
 -- where a try to connect ends
-pub data Connects (c : Carried) (g k : List ℕ) (p : ℕ) (r : Result Unit Missed) (d : Carried) : Type 0 where
-  connected : has_way c g ≡ true → c.answers k ≡ true → is_ok r ≡ true → d ≡ connected_to c g k p → Connects c g k p r d
-  no_connection : has_way c g ≡ true → c.answers k ≡ false → r ≡ Err Controller → d ≡ tunnelled_to c g → Connects c g k p r d
-  no_tunnel : has_way c g ≡ false → r ≡ Err Gateway → d ≡ dropped c → Connects c g k p r d
+pub data Connects (c : Carried) (g : List ℕ) (l : Link) (r : Result Unit Missed) (d : Carried) : Type 0 where
+  connected : has_way c g ≡ true → c.answers l.controller ≡ true → is_ok r ≡ true → d ≡ connected_to c g l → Connects c g l r d
+  no_connection : has_way c g ≡ true → c.answers l.controller ≡ false → r ≡ Err Controller → d ≡ tunnelled_to c g → Connects c g l r d
+  no_tunnel : has_way c g ≡ false → r ≡ Err Gateway → d ≡ dropped c → Connects c g l r d

@@ -3,8 +3,10 @@
 ghost use Rattle.std.specs.Prelude.{◌≡◌};
 ghost use Rattle.values.specs.Values.{coded};
 ghost use Rattle.carrier.specs.Connecting.{Connects};
+ghost use Rattle.carrier.specs.Links.{linked};
 
 use crate::carrying::Carrier;
+use crate::connection::Connection;
 use values::address::Address;
 
 /// What was not reached.
@@ -21,21 +23,14 @@ pub enum Missed {
 pub fn connect<C: Carrier>(
     carrier: &mut C,
     gateway: &Address,
-    controller: &Address,
-    port: u16,
+    to: &Connection,
 ) -> Result<(), Missed>
-    ensures { Connects (C.carried carrier.old) (coded gateway.now) (coded controller.now) port result (C.carried carrier.new) }
+    ensures { Connects (C.carried carrier.old) (coded gateway.now) (linked to.now) result (C.carried carrier.new) }
 {
     carrier.close();
     if !(*carrier).tunnelled(gateway) {
         carrier.drop_tunnel();
-        if !carrier.raise(gateway) {
-            return Err(Missed::Gateway);
-        }
+        carrier.raise(gateway).map_err(|_| Missed::Gateway)?;
     }
-    if carrier.open(controller, port) {
-        Ok(())
-    } else {
-        Err(Missed::Controller)
-    }
+    carrier.open(to).map_err(|_| Missed::Controller)
 }

@@ -2,12 +2,15 @@
 
 use crate::carrying::Carrier;
 use crate::connection::Connection;
+use crate::undone::Undone;
 use layout::fault::Fault;
 use values::address::Address;
 
 /// A carrier that is lent is a carrier, and means what it means.
 impl<'c, C: Carrier> Carrier for &'c mut C {
     ghost carried = { λ s. C.Carrier.carried s.now };
+
+    ghost kept = { λ s. C.Carrier.kept s.now };
 
     fn tunnel(&self) -> Option<Address> {
         (**self).tunnel()
@@ -29,15 +32,15 @@ impl<'c, C: Carrier> Carrier for &'c mut C {
         (**self).answers(address)
     }
 
-    fn raise(&mut self, gateway: &Address) -> bool {
+    fn raise(&mut self, gateway: &Address) -> Result<(), Undone> {
         (**self).raise(gateway)
     }
 
-    fn open(&mut self, controller: &Address, port: u16) -> bool {
-        (**self).open(controller, port)
+    fn open(&mut self, to: &Connection) -> Result<(), Undone> {
+        (**self).open(to)
     }
 
-    fn send(&mut self, octets: &[u8]) -> bool {
+    fn send(&mut self, octets: &[u8]) -> Result<(), Undone> {
         (**self).send(octets)
     }
 

@@ -6,3 +6,4 @@ pub mod carrying;
 pub mod connection;
 pub mod lent;
 pub mod path;
+pub mod undone;

@@ -1,11 +1,13 @@
 //! The way to a controller.
 
-ghost use Rattle.std.specs.Prelude.{◌≡◌, not, ◌&&◌, is_some, if◌then◌else◌, Some, None};
+ghost use Rattle.std.specs.Prelude.{◌≡◌, not, ◌&&◌, is_some, is_ok, IfErr, if◌then◌else◌, Some, None};
 ghost use Rattle.std.specs.Option.{option_map};
 ghost use Rattle.values.specs.Values.{coded};
+ghost use Rattle.carrier.specs.Carried.{why_not_raised, why_not_opened};
 ghost use Rattle.carrier.specs.Links.{gateway_of, link_of, linked};
 
 use crate::connection::Connection;
+use crate::undone::Undone;
 use values::address::Address;
 
 /// How far the way to a controller stands: a connection needs a tunnel.
@@ -50,38 +52,40 @@ impl Path {
     }
 
     /// Raises a tunnel where none stands, to a gateway that answers.
-    pub fn raise(&mut self, gateway: &Address, answers: bool) -> bool
-        ensures answer { result ≡ (not (is_some (gateway_of self.old)) && answers) }
-        ensures tunnel { gateway_of self.new ≡ (if result then Some (coded gateway.now) else gateway_of self.old) }
+    pub fn raise(&mut self, gateway: &Address, answers: bool) -> Result<(), Undone>
+        ensures answer { is_ok result ≡ (not (is_some (gateway_of self.old)) && answers) }
+        ensures why { IfErr result (λ e. e ≡ why_not_raised (gateway_of self.old)) }
+        ensures tunnel { gateway_of self.new ≡ (if is_ok result then Some (coded gateway.now) else gateway_of self.old) }
         ensures connection { link_of self.new ≡ link_of self.old }
     {
         match self {
             Path::Down if answers => {
                 *self = Path::Tunnel { gateway: *gateway };
-                true
+                Ok(())
             }
-            _ => false,
+            Path::Down => Err(Undone::NoAnswer),
+            Path::Tunnel { .. } | Path::Connected { .. } => Err(Undone::Tunnelled),
         }
     }
 
     /// Opens a connection where a tunnel and no connection stands, to a controller that answers.
-    pub fn open(&mut self, controller: &Address, port: u16, answers: bool) -> bool
-        ensures answer { result ≡ (is_some (gateway_of self.old) && (not (is_some (link_of self.old)) && answers)) }
+    pub fn open(&mut self, to: &Connection, answers: bool) -> Result<(), Undone>
+        ensures answer { is_ok result ≡ (is_some (gateway_of self.old) && (not (is_some (link_of self.old)) && answers)) }
+        ensures why { IfErr result (λ e. e ≡ why_not_opened (gateway_of self.old) (link_of self.old)) }
         ensures tunnel { gateway_of self.new ≡ gateway_of self.old }
-        ensures connection { link_of self.new ≡ (if result then Some (record { controller = coded controller.entry.now; port = port }) else link_of self.old) }
+        ensures connection { link_of self.new ≡ (if is_ok result then Some (linked to.now) else link_of self.old) }
     {
         match self {
             Path::Tunnel { gateway } if answers => {
                 *self = Path::Connected {
                     gateway: *gateway,
-                    connection: Connection {
-                        controller: *controller,
-                        port,
-                    },
+                    connection: *to,
                 };
-                true
+                Ok(())
             }
-            _ => false,
+            Path::Tunnel { .. } => Err(Undone::NoAnswer),
+            Path::Down => Err(Undone::NoTunnel),
+            Path::Connected { .. } => Err(Undone::Connected),
         }
     }
 

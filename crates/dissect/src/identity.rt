@@ -22,25 +22,27 @@ impl fmt::Display for Identity<'_> {
             5 => return f.write_str("TMGI"),
             kind => return write!(f, "of unknown kind {kind}"),
         }
-        write_digits(self.first, self.rest, f)
+        self.write_digits(f)
     }
 }
 
-// The digits: the high half of the first octet, then the low half of each octet before its high half. Of an even number
-// of digits the last half octet is a filler.
-fn write_digits<W: fmt::Write>(first: u8, rest: &[u8], f: &mut fmt::Formatter<W>) -> fmt::Result {
-    let odd = first & 8 != 0;
-    if rest.is_empty() && !odd {
-        return f.write_str("with no digits");
-    }
-    let mut waiting = first >> 4;
-    for octet in rest {
-        write!(f, "{waiting:x}{:x}", *octet & 15)?;
-        waiting = *octet >> 4;
-    }
-    if odd {
-        write!(f, "{waiting:x}")
-    } else {
-        Ok(())
+impl Identity<'_> {
+    // The digits: the high half of the first octet, then the low half of each octet before its high half. Of an even
+    // number of digits the last half octet is a filler.
+    fn write_digits<W: fmt::Write>(&self, f: &mut fmt::Formatter<W>) -> fmt::Result {
+        let odd = self.first & 8 != 0;
+        if self.rest.is_empty() && !odd {
+            return f.write_str("with no digits");
+        }
+        let mut waiting = self.first >> 4;
+        for octet in self.rest {
+            write!(f, "{waiting:x}{:x}", *octet & 15)?;
+            waiting = *octet >> 4;
+        }
+        if odd {
+            write!(f, "{waiting:x}")
+        } else {
+            Ok(())
+        }
     }
 }

@@ -1,6 +1,8 @@
 //! The names of message types and elements.
 
-/// The name of a message type under its discriminator.
+use values::listed::Listed;
+
+/// The name of a message type under its discriminator. Any two octets may stand there.
 pub fn type_name(discriminator: u8, kind: u8) -> Option<&'static str> {
     match (discriminator, kind) {
         (0, 16) => Some("GA-RC REGISTER REQUEST"),
@@ -20,49 +22,25 @@ pub fn type_name(discriminator: u8, kind: u8) -> Option<&'static str> {
     }
 }
 
-/// What the value of an element is.
-#[derive(Clone, Copy)]
-pub enum Kind {
-    Identity,
-    AccessPoint,
-    Address,
-    Name,
-    Number,
-    Seconds,
-    RejectCause,
-    RrCause,
-    /// Octets of another protocol.
-    Opaque,
-}
-
-/// An element that is known: its name, and what its value is.
-#[derive(Clone, Copy)]
-pub struct Listed {
-    pub name: &'static str,
-    pub kind: Kind,
-}
-
-/// What is known of the element with an identifier.
-pub fn look_up(id: u8) -> Option<Listed> {
-    let (name, kind) = match id {
-        1 => ("Mobile Identity", Kind::Identity),
-        3 => ("AP Radio Identity", Kind::AccessPoint),
-        9 => ("GANC-SEGW IP address", Kind::Address),
-        10 => ("GANC-SEGW name", Kind::Name),
-        11 => ("Redirection Counter", Kind::Number),
-        16 => ("TU3907 timer", Kind::Seconds),
-        21 => ("Register Reject Cause", Kind::RejectCause),
-        22 => ("TU3906 timer", Kind::Seconds),
-        26 => ("L3 Message", Kind::Opaque),
-        29 => ("RR Cause", Kind::RrCause),
-        49 => ("SAPI ID", Kind::Number),
-        50 => ("Establishment Cause", Kind::Number),
-        67 => ("Serving GANC Table Indicator", Kind::Number),
-        68 => ("Registration Indicators", Kind::Number),
-        97 => ("GANC IP address", Kind::Address),
-        98 => ("GANC name", Kind::Name),
-        103 => ("GANC TCP Port Number", Kind::Number),
-        _ => return None,
-    };
-    Some(Listed { name, kind })
+/// The name of a listed element.
+pub fn element_name(element: Listed) -> &'static str {
+    match element {
+        Listed::MobileIdentity => "Mobile Identity",
+        Listed::ApRadioIdentity => "AP Radio Identity",
+        Listed::GatewayIp => "GANC-SEGW IP address",
+        Listed::GatewayName => "GANC-SEGW name",
+        Listed::RedirectionCounter => "Redirection Counter",
+        Listed::Tu3907 => "TU3907 timer",
+        Listed::RegisterRejectCause => "Register Reject Cause",
+        Listed::Tu3906 => "TU3906 timer",
+        Listed::L3Message => "L3 Message",
+        Listed::RrCause => "RR Cause",
+        Listed::SapiId => "SAPI ID",
+        Listed::EstablishmentCause => "Establishment Cause",
+        Listed::ServingTable => "Serving GANC Table Indicator",
+        Listed::RegistrationIndicators => "Registration Indicators",
+        Listed::ControllerIp => "GANC IP address",
+        Listed::ControllerName => "GANC name",
+        Listed::Port => "GANC TCP Port Number",
+    }
 }

@@ -34,11 +34,7 @@ impl fmt::Display for Refusal<'_> {
 
 // The octets from a place on.
 fn octets_from(octets: &[u8], place: usize) -> &[u8] {
-    if place <= octets.len() {
-        &octets[place..]
-    } else {
-        &[]
-    }
+    octets.get(place..).unwrap_or(&[])
 }
 
 fn write_indicator<W: fmt::Write>(octets: &[u8], f: &mut fmt::Formatter<W>) -> fmt::Result {
@@ -94,5 +90,5 @@ fn write_overlong<W: fmt::Write>(element: &[u8], f: &mut fmt::Formatter<W>) -> f
 fn wide(high: u8, low: u8) -> usize
     ensures { result ≡ high % 128 * 256 + low }
 {
-    usize::from(high) % 128 * 256 + usize::from(low)
+    usize::from(u16::from_be_bytes([high % 128, low]))
 }

@@ -1,12 +1,14 @@
 //! What the value of an element says, in the words that an engineer reads.
 
-use crate::address::Ipv6;
 use crate::causes::{reject_cause, rr_cause};
 use crate::counted::Counted;
 use crate::identity::Identity;
-use crate::names::{Kind, look_up};
+use crate::names::element_name;
 use std::fmt;
-use values::form::{Form, form_of};
+use std::net::{Ipv4Addr, Ipv6Addr};
+use values::address::{Address, read_ip};
+use values::form::Form;
+use values::listed::Listed;
 
 /// What an element is, and what its value says.
 #[derive(Clone, Copy)]
@@ -17,13 +19,13 @@ pub struct Meaning<'a> {
 
 impl fmt::Display for Meaning<'_> {
     fn fmt<W: fmt::Write>(&self, f: &mut fmt::Formatter<W>) -> fmt::Result {
-        let Some(element) = look_up(self.id) else {
+        let Ok(element) = Listed::try_from(self.id) else {
             return f.write_str("not listed");
         };
-        f.write_str(element.name)?;
-        let form = form_of(self.id);
+        f.write_str(element_name(element))?;
+        let form = element.form();
         if form.admits(self.value) {
-            write_value(element.kind, self.value, f)
+            write_value(element, self.value, f)
         } else {
             write_unfit(form, self.value, f)
         }
@@ -42,7 +44,6 @@ fn write_unfit<W: fmt::Write>(form: Form, value: &[u8], f: &mut fmt::Formatter<W
             write!(f, ", {} where ", Counted(value.len()))?;
             write_sizes(least, most, f)
         }
-        (Form::Unlisted, _) => Ok(()),
     }
 }
 
@@ -57,9 +58,13 @@ fn write_sizes<W: fmt::Write>(least: usize, most: usize, f: &mut fmt::Formatter<
 }
 
 // A value that has its form.
-fn write_value<W: fmt::Write>(kind: Kind, value: &[u8], f: &mut fmt::Formatter<W>) -> fmt::Result {
-    match (kind, value) {
-        (Kind::Identity, [first, rest @ ..]) => write!(
+fn write_value<W: fmt::Write>(
+    element: Listed,
+    value: &[u8],
+    f: &mut fmt::Formatter<W>,
+) -> fmt::Result {
+    match (element, value) {
+        (Listed::MobileIdentity, [first, rest @ ..]) => write!(
             f,
             " {}",
             Identity {
@@ -67,38 +72,35 @@ fn write_value<W: fmt::Write>(kind: Kind, value: &[u8], f: &mut fmt::Formatter<W
                 rest
             }
         ),
-        (Kind::AccessPoint, [kind, octets @ ..]) => write_access_point(*kind, octets, f),
-        (Kind::Address, [_, octets @ ..]) => write_address(octets, f),
-        (Kind::Name, name) => write_name(name, f),
-        (Kind::Number, [n]) => write!(f, " {n}"),
-        (Kind::Number, [high, low]) => write!(f, " {}", u16::from_be_bytes([*high, *low])),
-        (Kind::Seconds, [high, low]) => write!(f, " {} s", u16::from_be_bytes([*high, *low])),
-        (Kind::RejectCause, [cause]) => write!(f, " {cause}: {}", reject_cause(*cause)),
-        (Kind::RrCause, [cause]) => write!(f, " {cause}: {}", rr_cause(*cause)),
+        (Listed::ApRadioIdentity, [0, a, b, c, d, e, g]) => {
+            write!(f, " {a:02x}:{b:02x}:{c:02x}:{d:02x}:{e:02x}:{g:02x}")
+        }
+        (Listed::ApRadioIdentity, [kind, ..]) => write!(f, " of unknown kind {kind}"),
+        (Listed::GatewayIp | Listed::ControllerIp, address) => write_address(address, f),
+        (Listed::GatewayName | Listed::ControllerName, name) => write_name(name, f),
+        (Listed::Tu3907 | Listed::Tu3906, [high, low]) => {
+            write!(f, " {} s", u16::from_be_bytes([*high, *low]))
+        }
+        (Listed::Port, [high, low]) => write!(f, " {}", u16::from_be_bytes([*high, *low])),
+        (Listed::RegisterRejectCause, [cause]) => write!(f, " {cause}: {}", reject_cause(*cause)),
+        (Listed::RrCause, [cause]) => write!(f, " {cause}: {}", rr_cause(*cause)),
+        (
+            Listed::RedirectionCounter
+            | Listed::SapiId
+            | Listed::EstablishmentCause
+            | Listed::ServingTable
+            | Listed::RegistrationIndicators,
+            [n],
+        ) => write!(f, " {n}"),
+        // What an L3 Message says is of another protocol.
         _ => Ok(()),
     }
 }
 
-fn write_access_point<W: fmt::Write>(
-    kind: u8,
-    octets: &[u8],
-    f: &mut fmt::Formatter<W>,
-) -> fmt::Result {
-    if kind != 0 {
-        return write!(f, " of unknown kind {kind}");
-    }
-    let mut before = " ";
-    for octet in octets {
-        write!(f, "{before}{octet:02x}")?;
-        before = ":";
-    }
-    Ok(())
-}
-
-fn write_address<W: fmt::Write>(octets: &[u8], f: &mut fmt::Formatter<W>) -> fmt::Result {
-    match octets {
-        [a, b, c, d] => write!(f, " {a}.{b}.{c}.{d}"),
-        _ if octets.len() == 16 => write!(f, " {}", Ipv6::new(octets)),
+fn write_address<W: fmt::Write>(value: &[u8], f: &mut fmt::Formatter<W>) -> fmt::Result {
+    match read_ip(value) {
+        Some(Address::V4(octets)) => write!(f, " {}", Ipv4Addr::from(octets)),
+        Some(Address::V6(octets)) => write!(f, " {}", Ipv6Addr::from(octets).hex_groups()),
         _ => Ok(()),
     }
 }

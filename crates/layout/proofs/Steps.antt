@@ -1,9 +1,10 @@
 -- A walk over a message, one element at a time.
-use Rattle.std.proofs.Common.{◌≡◌, ℕ, zero, suc, ◌+◌, ◌-◌, ◌<◌, ◌≤◌, Bool, true, false, cond, ltb, List, length, Ok, Err, Result, refl, ap, ◌∙◌, arith}
+use Rattle.std.proofs.Common.{◌≡◌, ℕ, zero, suc, ◌+◌, ◌-◌, ◌<◌, ◌≤◌, Bool, true, false, cond, ltb, List, length, Some, Ok, Err, Result, MatchResult, refl, sym, ap, ◌∙◌, arith}
 use Rattle.std.proofs.lemmas.Bool.Decides.{nat_tests}
 use Rattle.std.proofs.lemmas.List.{length-take, length-drop}
+use Rattle.layout.specs.declared.element.Element.{Element}
 use Rattle.layout.specs.declared.fault.Fault.{Fault}
-use Rattle.layout.specs.Elements.{Part, Walk, end, bad, more, onward, walk_by, walk, element_at, valued, past}
+use Rattle.layout.specs.Elements.{Part, Walk, end, bad, more, onward, walk_by, walk, Steps, steps_left, found, seen, element_at, valued, past}
 
 -- a value lies within the message
 valued_past : (m : List ℕ) (at start len : ℕ) (p : Part) → start ≤ length m → valued m at start len ≡ Ok p → (p.start ≡ start) × (length p.value ≡ len) × (start + len ≤ length m)
@@ -47,3 +48,12 @@ walk_ok m at p h q = walk_more m at h ∙ ap (λ (v : Result Part Fault). onward
 
 pub walk_bad : (m : List ℕ) (at : ℕ) (x : Fault) → at < length m → element_at m at ≡ Err x → walk m at ≡ bad x
 walk_bad m at x h q = walk_more m at h ∙ ap (λ (v : Result Part Fault). onward v (λ e. walk m (past e))) q
+
+-- a step from `at` to `to`
+pub step_on : (m : List ℕ) (at to : ℕ) (r : Result Element Fault) → at < length m → found r ≡ element_at m at → MatchResult r (λ e. to ≡ past (seen e)) (λ _. to ≡ length m) → Steps (walk m at) (Some r) (walk m to)
+step_on m at to (Ok e) h q t = walk_ok m at (seen e) h (sym q) ∙ ap (λ (n : ℕ). more (seen e) (walk m n)) (sym t)
+step_on m at to (Err x) h q t = (walk_bad m at x h (sym q), walk_end m to (omega arith))
+
+pub fewer_left : (w v : Walk) (r : Result Element Fault) → Steps w (Some r) v → steps_left v < steps_left w
+fewer_left w v (Ok e) h = rw h (omega arith)
+fewer_left w v (Err x) h = rw (h.0, h.1) (omega arith)

@@ -3,7 +3,8 @@ use Rattle.std.proofs.Common.{◌≡◌, ℕ, zero, suc, ◌+◌, ◌-◌, ◌<�
 use Rattle.std.specs.List.{flat_map}
 use Rattle.std.proofs.lemmas.Bool.Decides.{nat_tests}
 use Rattle.std.proofs.lemmas.Bool.{cases_lt, ltb-true, ltb-false}
-use Rattle.std.proofs.lemmas.List.{length-take, length-drop, drop_more, drop-drop, drop_all, take-append-drop}
+use Rattle.std.proofs.lemmas.Simd.{chunk-drop}
+use Rattle.std.proofs.lemmas.List.{length-take, length-drop, drop_more, drop_all, take-append-drop}
 use Rattle.layout.specs.declared.fault.Fault.{Fault}
 use Rattle.layout.specs.Elements.{Part, Walk, end, onward, walk_by, walk, element_at, wide, past, parts, part_octets, element_octets, size_octets, fault_in}
 use Rattle.layout.proofs.Sizes.{size_small, size_wide}
@@ -15,7 +16,7 @@ Bytes m = (i : ℕ) → get_or m i 0 < 256
 
 -- a value and what follows it
 value_then : (m : List ℕ) (start len : ℕ) → take len (drop start m) ++ drop (start + len) m ≡ drop start m
-value_then m start len = ap (λ (t : List ℕ). take len (drop start m) ++ t) (sym (drop-drop len start m)) ∙ take-append-drop len (drop start m)
+value_then m start len = sym (chunk-drop start len m)
 
 -- an octet and what follows it
 octet_then : (m : List ℕ) (at : ℕ) → at < length m → get_or m at 0 ∷ drop (at + 1) m ≡ drop at m
@@ -48,39 +49,23 @@ ways m at p l h =
 
 -- the octets of an element whose length reads as these, and what follows
 sized_then : (m : List ℕ) (id at start len : ℕ) (v size : List ℕ) → length v ≡ len → size_octets len ≡ size → v ≡ take len (drop start m) → id ∷ (size ++ drop start m) ≡ drop at m → element_octets id v ++ drop (start + length v) m ≡ drop at m
-sized_then m id at start len v size l s e f =
-    ap (λ (n : ℕ). (id ∷ (size_octets n ++ v)) ++ drop (start + n) m) l
-    ∙ ap (λ (z : List ℕ). (id ∷ (z ++ v)) ++ drop (start + len) m) s
-    ∙ ap (λ (z : List ℕ). id ∷ z) (append_assoc size v (drop (start + len) m) ∙ ap (λ (z : List ℕ). size ++ z) (ap (λ (z : List ℕ). z ++ drop (start + len) m) e ∙ value_then m start len))
-    ∙ f
+sized_then m id at start len v size l s e f = grind (arith, append_assoc, value_then)
 
 taken_length : (m : List ℕ) (start len : ℕ) → start + len ≤ length m → length (take len (drop start m)) ≡ len
 taken_length m start len h = grind (arith, length-take, length-drop)
 
 two_then : (m : List ℕ) (at : ℕ) → at + 1 < length m → get_or m at 0 ∷ get_or m (at + 1) 0 ∷ drop (at + 2) m ≡ drop at m
-two_then m at h =
-    let e : at + 1 + 1 ≡ at + 2 = omega arith in
-    ap (λ (z : List ℕ). get_or m at 0 ∷ z) (ap (λ (k : ℕ). get_or m (at + 1) 0 ∷ drop k m) (sym e) ∙ octet_then m (at + 1) h)
-    ∙ octet_then m at (omega arith)
+two_then m at h = grind (arith, octet_then)
 
 three_then : (m : List ℕ) (at : ℕ) → at + 2 < length m → get_or m at 0 ∷ get_or m (at + 1) 0 ∷ get_or m (at + 1 + 1) 0 ∷ drop (at + 3) m ≡ drop at m
-three_then m at h =
-    let e : at + 1 + 2 ≡ at + 3 = omega arith in
-    ap (λ (z : List ℕ). get_or m at 0 ∷ z) (ap (λ (k : ℕ). get_or m (at + 1) 0 ∷ get_or m (at + 1 + 1) 0 ∷ drop k m) (sym e) ∙ two_then m (at + 1) (omega arith))
-    ∙ octet_then m at (omega arith)
+three_then m at h = grind (arith, octet_then)
 
 -- an element's octets and what follows it
 pub element_then : (m : List ℕ) (at : ℕ) (p : Part) → Bytes m → at < length m → element_at m at ≡ Ok p → part_octets p ++ drop (past p) m ≡ drop at m
 element_then m at p b l h =
     ⊎_elim
-    (λ s. let n : at + 1 < length m = omega arith in
-    let e : part_octets (short_part m at) ++ drop (past (short_part m at)) m ≡ drop at m =
-    sized_then m (get_or m at 0) at (at + 2) (get_or m (at + 1) 0) _ (get_or m (at + 1) 0 ∷ []) (taken_length m (at + 2) (get_or m (at + 1) 0) s.fits) (size_small _ s.small) refl (two_then m at n) in
-    ap (λ (q : Part). part_octets q ++ drop (past q) m) s.is ∙ e)
-    (λ s. let n : at + 2 < length m = omega (arith, s.fits, s.large) in
-    let e : part_octets (long_part m at) ++ drop (past (long_part m at)) m ≡ drop at m =
-    sized_then m (get_or m at 0) at (at + 3) (wide m (at + 1)) _ (get_or m (at + 1) 0 ∷ get_or m (at + 1 + 1) 0 ∷ []) (taken_length m (at + 3) (wide m (at + 1)) s.fits) (size_wide _ _ (b (at + 1 + 1)) s.marked s.large) refl (three_then m at n) in
-    ap (λ (q : Part). part_octets q ++ drop (past q) m) s.is ∙ e)
+    (λ s. rw s.is (sized_then m (get_or m at 0) at (at + 2) (get_or m (at + 1) 0) _ (get_or m (at + 1) 0 ∷ []) (taken_length m (at + 2) (get_or m (at + 1) 0) s.fits) (size_small _ s.small) refl (two_then m at (omega (arith, s.fits)))))
+    (λ s. rw s.is (sized_then m (get_or m at 0) at (at + 3) (wide m (at + 1)) _ (get_or m (at + 1) 0 ∷ get_or m (at + 1 + 1) 0 ∷ []) (taken_length m (at + 3) (wide m (at + 1)) s.fits) (size_wide _ _ (b (at + 1 + 1)) s.marked s.large) refl (three_then m at (omega (arith, s.fits, s.large)))))
     (ways m at p l h)
 
 abbrev together : Walk → List ℕ

@@ -1,7 +1,9 @@
 -- The elements of a message: an identifier octet, a length, a value, one element after another.
-use Rattle.std.specs.Prelude.{◌≡◌, ℕ, zero, suc, ◌+◌, ◌-◌, ◌*◌, ◌/◌, ◌%◌, ◌<◌, ◌≤◌, cond, List, [], ◌∷◌, ◌++◌, length, take, drop, Some, None, Ok, Err, Option, Result, ◌==◌, nat_lt, slice_index}
+use Rattle.std.specs.Prelude.{◌≡◌, ℕ, zero, suc, ◌+◌, ◌-◌, ◌*◌, ◌/◌, ◌%◌, cond, List, [], ◌∷◌, ◌++◌, length, take, drop, Some, None, Ok, Err, Option, Result, ◌==◌, nat_lt, slice_index}
+use Rattle.std.specs.List.{find}
 use Rattle.layout.specs.declared.fault.Fault.{Fault}
 use Rattle.layout.specs.declared.fault.Fault.TheVariants.{CutShort, Overlong}
+use Rattle.layout.specs.declared.cursor.Cursor.{Cursor}
 use Rattle.layout.specs.declared.element.Element.{Element}
 use Rattle.layout.specs.declared.elements.Elements.{Elements}
 
@@ -69,14 +71,26 @@ walk_by (suc k) m at = cond (nat_lt at (length m)) (onward (element_at m at) (λ
 unfoldable pub walk : List ℕ → ℕ → Walk
 walk m at = walk_by (length m - at) m at
 
--- one step of a walk, as code finds it
-abbrev pub Stepped : List ℕ → ℕ → Option Element → Type 0
-Stepped m at None = walk m at ≡ end
-Stepped m at (Some e) = (walk m at ≡ more (seen e) (walk m (past (seen e)))) × (at < past (seen e)) × (past (seen e) ≤ length m)
+-- what a cursor comes to, from its place on
+abbrev pub ahead : Cursor → Walk
+ahead c = walk c.message.now c.at
 
-abbrev pub Steps : List ℕ → ℕ → Result (Option Element) Fault → Type 0
-Steps m at (Ok o) = Stepped m at o
-Steps m at (Err f) = walk m at ≡ bad f
+-- what the code holds of a step
+abbrev pub found : Result Element Fault → Result Part Fault
+found (Ok e) = Ok (seen e)
+found (Err x) = Err x
+
+-- one step of a walk, as code finds it, and the walk from there on
+abbrev pub Steps : Walk → Option (Result Element Fault) → Walk → Type 0
+Steps w None v = (w ≡ end) × (v ≡ end)
+Steps w (Some (Ok e)) v = w ≡ more (seen e) v
+Steps w (Some (Err x)) v = (w ≡ bad x) × (v ≡ end)
+
+-- how many steps a walk has left
+abbrev pub steps_left : Walk → ℕ
+steps_left end = 0
+steps_left (bad x) = 1
+steps_left (more p w) = steps_left w + 1
 
 -- the elements that a walk comes to, and the fault that it comes to
 abbrev pub parts : Walk → List Part
@@ -95,17 +109,8 @@ elements m = parts (walk m 4)
 
 -- the element that an identifier means: where several have it, the one that stands first
 abbrev pub first_of : ℕ → List Part → Option Part
-first_of id [] = None
-first_of id (p ∷ ps) = cond (p.id == id) (Some p) (first_of id ps)
+first_of id ps = find (λ p. p.id == id) ps
 
 -- the elements that are yet to come
 abbrev pub rest : Elements → List Part
-rest s = parts (walk s.message.now s.at)
-
-abbrev pub first_in : List Part → Option Part
-first_in [] = None
-first_in (p ∷ ps) = Some p
-
-abbrev pub others_in : List Part → List Part
-others_in [] = []
-others_in (p ∷ ps) = ps
+rest s = parts (ahead s.cursor)

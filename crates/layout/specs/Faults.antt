@@ -1,5 +1,6 @@
 -- The number, the place and the element of each refusal, and what an answer is that may be one.
-use Rattle.std.specs.Prelude.{◌≡◌, ℕ, Some, None, Option, Result, MatchResult}
+use Rattle.std.specs.Prelude.{◌≡◌, ℕ, List, ◌++◌, Some, None, Option, Result, MatchResult, codes}
+use Rattle.std.specs.Fmt.{decimal}
 use Rattle.layout.specs.declared.fault.Fault.{Fault}
 use Rattle.layout.specs.declared.fault.Fault.TheVariants.{Size, Indicator, Discriminator, Unheard, CutShort, Overlong, Missing, Malformed, OutOfBounds, WrongState, Excluded, NoPlace}
 
@@ -27,6 +28,18 @@ refusal OutOfBounds = plain 6 0
 refusal WrongState = plain 7 0
 refusal Excluded = plain 8 0
 refusal NoPlace = plain 9 0
+
+-- the element that a fault speaks of: its place and its identifier
+abbrev pub spot : Fault → Option (ℕ × ℕ)
+spot (CutShort p e) = Some (p, e)
+spot (Overlong p e) = Some (p, e)
+spot (Missing p e) = Some (p, e)
+spot (Malformed p e) = Some (p, e)
+spot _ = None
+
+-- a refusal in words
+abbrev pub words : Refusal → List ℕ
+words r = codes "refused " ++ decimal r.number ++ codes " at " ++ decimal r.place ++ codes " element " ++ decimal r.element
 
 -- a fault is refused with this number, at this place, for this element
 abbrev pub Refuses : ℕ → ℕ → ℕ → Fault → Type 0

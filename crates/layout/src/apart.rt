@@ -6,7 +6,7 @@ ghost use Rattle.layout.specs.Elements.{walk, fault_in, elements, part_octets, r
 ghost use Rattle.layout.specs.Faults.{Answers};
 ghost use Rattle.layout.specs.Layout.{header_fault, apart_fault};
 
-use crate::element::step_at;
+use crate::cursor::{Cursor, HEADER_LEN};
 use crate::elements::Elements;
 use crate::fault::Fault;
 
@@ -14,13 +14,16 @@ use crate::fault::Fault;
 pub fn check_header(message: &[u8]) -> Result<(), Fault>
     ensures { Answers (header_fault message.now) (λ _. 4 ≤ length message.now) result }
 {
-    if message.len() < 4 || message.len() > 512 {
+    let [high, low, discriminator, _, ..] = message else {
+        return Err(Fault::Size);
+    };
+    if message.len() > 512 {
         return Err(Fault::Size);
     }
-    if message[0] as usize * 256 + message[1] as usize + 2 != message.len() {
+    if usize::from(u16::from_be_bytes([*high, *low])) + 2 != message.len() {
         return Err(Fault::Indicator);
     }
-    if message[2] > 1 {
+    if *discriminator > 1 {
         return Err(Fault::Discriminator);
     }
     Ok(())
@@ -30,9 +33,8 @@ pub fn check_header(message: &[u8]) -> Result<(), Fault>
 pub fn check_elements(message: &[u8]) -> Result<(), Fault>
     ensures { Answers (fault_in (walk message.now 4)) (λ _. Unit {0}) result }
 {
-    let mut at = 4;
-    while let Some(element) = step_at(message, at)? {
-        at = element.start + element.value.len();
+    for step in Cursor::new(message, HEADER_LEN) {
+        step?;
     }
     Ok(())
 }

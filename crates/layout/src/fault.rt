@@ -1,10 +1,13 @@
 //! Why a call is refused.
 
-ghost use Rattle.std.specs.Prelude.{◌≡◌};
-ghost use Rattle.layout.specs.Faults.{refusal};
+ghost use Rattle.std.specs.Prelude.{◌≡◌, Some};
+ghost use Rattle.layout.specs.Faults.{refusal, spot, words};
+
+use std::error::Error;
+use std::fmt;
 
 /// What was wrong, one case for each rule that a call can break. The definition `refusal` gives each case's number, place and
-/// element.
+/// element, whose identifier may be any octet.
 #[derive(Clone, Copy, PartialEq, Eq, Debug)]
 pub enum Fault {
     /// The message has fewer than 4 octets or more than 512.
@@ -58,11 +61,7 @@ impl Fault {
         match self {
             Fault::Discriminator => 2,
             Fault::Unheard => 3,
-            Fault::CutShort { place, .. }
-            | Fault::Overlong { place, .. }
-            | Fault::Missing { place, .. }
-            | Fault::Malformed { place, .. } => *place,
-            _ => 0,
+            _ => self.spot().map_or(0, |(place, _)| place),
         }
     }
 
@@ -70,12 +69,32 @@ impl Fault {
     pub fn element(&self) -> u8
         ensures { result ≡ (refusal self.now).element }
     {
-        match self {
-            Fault::CutShort { element, .. }
-            | Fault::Overlong { element, .. }
-            | Fault::Missing { element, .. }
-            | Fault::Malformed { element, .. } => *element,
-            _ => 0,
+        self.spot().map_or(0, |(_, element)| element)
+    }
+
+    // Where the element stands that the refusal speaks of, and its identifier.
+    fn spot(&self) -> Option<(usize, u8)>
+        ensures { result ≡ spot self.now }
+    {
+        match *self {
+            Fault::CutShort { place, element }
+            | Fault::Overlong { place, element }
+            | Fault::Missing { place, element }
+            | Fault::Malformed { place, element } => Some((place, element)),
+            _ => None,
         }
     }
 }
+
+impl fmt::Display for Fault {
+    ghost output = { λ fault. Some (words (refusal fault)) };
+
+    fn fmt<W: fmt::Write>(&self, f: &mut fmt::Formatter<W>) -> fmt::Result {
+        let number = self.number();
+        let place = self.place();
+        let element = self.element();
+        write!(f, "refused {number} at {place} element {element}")
+    }
+}
+
+impl Error for Fault {}

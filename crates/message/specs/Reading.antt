@@ -11,7 +11,7 @@ use Rattle.message.specs.declared.heard.Rejection.{Rejection}
 use Rattle.message.specs.declared.heard.Rejection.TheVariants.{Congestion, Cause}
 use Rattle.layout.specs.Elements.{Part, walk, elements, first_of, fault_in}
 use Rattle.values.specs.declared.form.Form.{Form}
-use Rattle.values.specs.Forms.{has_form, form_of}
+use Rattle.values.specs.Forms.{fits_form, form_of}
 use Rattle.layout.specs.Faults.{Answers}
 use Rattle.layout.specs.Layout.{then_check, header_fault}
 use Rattle.message.specs.Types.{Use, needs, may_use, needs_address, needs_at_zero, uses, octet_of, heard_as}
@@ -52,21 +52,21 @@ abbrev pub address_in : List ℕ → ℕ → ℕ → List ℕ
 address_in m i n = address_of (first m i) (first m n)
 
 -- a used element has its form
-abbrev pub form_fault : Form → ℕ → Part → Option Fault
-form_fault f id p = cond (has_form f p.value) None (Some (Malformed p.place id))
+abbrev pub form_fault : Option Form → ℕ → Part → Option Fault
+form_fault f id p = cond (fits_form f p.value) None (Some (Malformed p.place id))
 
 -- an element that may be absent
-abbrev pub used_fault : Form → ℕ → Option Part → Option Fault
+abbrev pub used_fault : Option Form → ℕ → Option Part → Option Fault
 used_fault f id None = None
 used_fault f id (Some p) = form_fault f id p
 
 -- a needed element is there; where it is not, the place is the message's length
-abbrev pub needed_fault : Form → List ℕ → ℕ → Option Part → Option Fault
+abbrev pub needed_fault : Option Form → List ℕ → ℕ → Option Part → Option Fault
 needed_fault f m id None = Some (Missing (length m) id)
 needed_fault f m id (Some p) = form_fault f id p
 
 -- an address: the name is looked at only where the IP element is absent
-abbrev pub address_fault : Form → Form → List ℕ → ℕ → ℕ → Option Part → Option Part → Option Fault
+abbrev pub address_fault : Option Form → Option Form → List ℕ → ℕ → ℕ → Option Part → Option Part → Option Fault
 address_fault f g m i n (Some p) q = form_fault f i p
 address_fault f g m i n None None = Some (Missing (length m) i)
 address_fault f g m i n None (Some p) = form_fault g n p
@@ -107,7 +107,7 @@ type_of (RegisterRedirect g c p) = redirect
 type_of (RegisterReject x) = reject
 type_of (Deregister x) = deregister
 type_of (Release c) = release
-type_of (DownlinkDirectTransfer s n) = downlink
+type_of (DownlinkDirectTransfer l) = downlink
 type_of RequestAccept = request_accept
 type_of (RequestReject c) = request_reject
 
@@ -123,7 +123,7 @@ Brings m (RegisterRedirect g c p) = (address_in m 9 10 ≡ coded g) × (address_
 Brings m (RegisterReject x) = Rejects m x
 Brings m (Deregister x) = Rejects m x
 Brings m (Release c) = number_in m 29 ≡ c
-Brings m (DownlinkDirectTransfer s n) = (start_of (first m 26) ≡ s) × (length (value_of (first m 26)) ≡ n)
+Brings m (DownlinkDirectTransfer l) = (start_of (first m 26) ≡ l.start) × (length (value_of (first m 26)) ≡ l.len)
 Brings m RequestAccept = Unit {0}
 Brings m (RequestReject c) = number_in m 29 ≡ c
 

@@ -3,7 +3,7 @@
 use values::address::Address;
 
 /// Why a registration is rejected or ended.
-#[derive(Clone, Copy)]
+#[derive(Clone, Copy, PartialEq, Eq, Debug)]
 pub enum Rejection {
     /// Cause 0, network congestion, with the ticks to wait.
     Congestion { tu3907: u16 },
@@ -11,8 +11,15 @@ pub enum Rejection {
     Cause(u8),
 }
 
+/// Where an L3 message stands: its octets belong to another protocol.
+#[derive(Clone, Copy, PartialEq, Eq, Debug)]
+pub struct L3Message {
+    pub start: usize,
+    pub len: usize,
+}
+
 /// A message heard, with the values that it brings.
-#[derive(Clone, Copy)]
+#[derive(Clone, Copy, PartialEq, Eq, Debug)]
 pub enum Heard {
     RegisterAccept {
         tu3906: u16,
@@ -28,11 +35,7 @@ pub enum Heard {
     Release {
         cause: u8,
     },
-    /// The place and the length of the L3 message.
-    DownlinkDirectTransfer {
-        start: usize,
-        len: usize,
-    },
+    DownlinkDirectTransfer(L3Message),
     RequestAccept,
     RequestReject {
         cause: u8,

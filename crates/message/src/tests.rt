@@ -45,17 +45,13 @@ fn a_message_may_have_512_octets() -> Result<(), Fail> {
 
 #[test]
 fn an_accept_brings_its_timer(rt: HostRuntime) -> Result<(), Fail> {
-    match read(&[0x00, 0x06, 0x00, 0x11, 0x16, 0x02, 0x00, 0x1E]) {
-        Ok(
-            Heard::RegisterAccept {
-                tu3906,
-                serving_table,
-            },
-        ) => {
-            assert_eq!(rt; tu3906, 30);
-            assert_eq!(rt; serving_table, None);
-            Ok(())
+    let heard = read(&[0x00, 0x06, 0x00, 0x11, 0x16, 0x02, 0x00, 0x1E])?;
+    assert_eq!(rt;
+        heard,
+        Heard::RegisterAccept {
+            tu3906: 30,
+            serving_table: None,
         }
-        _ => Err(Fail::new("no REGISTER ACCEPT")),
-    }
+    );
+    Ok(())
 }

@@ -1,6 +1,7 @@
 //! The types of messages.
 
-ghost use Rattle.std.specs.Prelude.{◌≡◌, Some, None, MatchResult};
+ghost use Rattle.std.specs.Prelude.{◌≡◌, Some, None, MatchResult, slice_index};
+ghost use Rattle.layout.specs.declared.fault.Fault.TheVariants.{Unheard};
 ghost use Rattle.message.specs.Types.{discriminator_of, heard_as};
 
 use layout::fault::Fault;
@@ -19,32 +20,33 @@ pub enum HeardType {
 }
 
 /// The protocol discriminator of a type: 0 for GA-RC, 1 for GA-CSR.
+// An octet and no enum: each use wants the octet itself.
 pub fn discriminator(type_octet: u8) -> u8
     ensures { result ≡ discriminator_of type_octet }
 {
-    if type_octet < 64 || type_octet == 116 {
-        0
-    } else {
-        1
+    match type_octet {
+        0..=63 | 116 => 0,
+        _ => 1,
     }
 }
 
-/// The type that is heard with these octets.
-pub fn heard_type(discriminator_octet: u8, type_octet: u8) -> Result<HeardType, Fault>
-    ensures { MatchResult result (λ t. heard_as discriminator_octet type_octet ≡ Some t) (λ f. (heard_as discriminator_octet type_octet ≡ None) × (f ≡ Fault.Unheard)) }
-{
-    if discriminator_octet != discriminator(type_octet) {
-        return Err(Fault::Unheard);
-    }
-    match type_octet {
-        17 => Ok(HeardType::RegisterAccept),
-        18 => Ok(HeardType::RegisterRedirect),
-        19 => Ok(HeardType::RegisterReject),
-        20 => Ok(HeardType::Deregister),
-        64 => Ok(HeardType::Release),
-        114 => Ok(HeardType::DownlinkDirectTransfer),
-        129 => Ok(HeardType::RequestAccept),
-        130 => Ok(HeardType::RequestReject),
-        _ => Err(Fault::Unheard),
+/// The type that is heard with a discriminator and a type octet.
+impl TryFrom<[u8; 2]> for HeardType {
+    type Error = Fault;
+
+    ghost try_from_gives = { λ octets r. MatchResult r (λ t. heard_as (slice_index octets 0) (slice_index octets 1) ≡ Some t) (λ f. (heard_as (slice_index octets 0) (slice_index octets 1) ≡ None) × (f ≡ Unheard)) };
+
+    fn try_from(octets: [u8; 2]) -> Result<HeardType, Fault> {
+        match octets {
+            [0, 17] => Ok(HeardType::RegisterAccept),
+            [0, 18] => Ok(HeardType::RegisterRedirect),
+            [0, 19] => Ok(HeardType::RegisterReject),
+            [0, 20] => Ok(HeardType::Deregister),
+            [1, 64] => Ok(HeardType::Release),
+            [1, 114] => Ok(HeardType::DownlinkDirectTransfer),
+            [1, 129] => Ok(HeardType::RequestAccept),
+            [1, 130] => Ok(HeardType::RequestReject),
+            _ => Err(Fault::Unheard),
+        }
     }
 }

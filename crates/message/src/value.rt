@@ -8,6 +8,7 @@ ghost use Rattle.values.specs.declared.form.Form.TheVariants.{Octets, Ip};
 ghost use Rattle.message.specs.Reading.{form_fault, number, start_of, value_of};
 ghost use Rattle.values.specs.Values.{coded};
 
+use crate::heard::L3Message;
 use layout::element::Element;
 use layout::fault::Fault;
 use values::address::{Address, read_ip};
@@ -33,78 +34,68 @@ pub(crate) trait Value: Sized {
 
     /// The value of an element, or the refusal of one that has not the form.
     fn of(element: Element<'_>) -> Result<Self, Fault>
-        ensures { Answers (form_fault form element.entry.id (seen element.entry)) (λ v. held (Some (seen element.entry)) ≡ v) result };
+        ensures { Answers (form_fault (Some form) element.entry.id (seen element.entry)) (λ v. held (Some (seen element.entry)) ≡ v) result };
 }
 
-/// A number of one octet.
+// The octets of a value, exactly so many.
+fn octets<const N: usize>(element: Element<'_>) -> Result<[u8; N], Fault>
+    ensures { Answers (form_fault (Some (Octets N N)) element.entry.id (seen element.entry)) (λ octets. octets ≡ element.entry.value.now) result }
+{
+    <[u8; N]>::try_from(element.value)
+        .ok()
+        .ok_or(malformed(element))
+}
+
+// A number's size is no const parameter of its type, so each size has its impl.
 impl Value for u8 {
     ghost form = { Octets 1 1 };
 
     ghost held = { λ o. number (value_of o) };
 
     fn of(element: Element<'_>) -> Result<u8, Fault> {
-        match element.value {
-            [octet] => Ok(*octet),
-            _ => Err(malformed(element)),
-        }
+        octets(element).map(u8::from_be_bytes)
     }
 }
 
-/// A number of two octets.
 impl Value for u16 {
     ghost form = { Octets 2 2 };
 
     ghost held = { λ o. number (value_of o) };
 
     fn of(element: Element<'_>) -> Result<u16, Fault> {
-        match element.value {
-            [high, low] => Ok(u16::from(*high) * 256 + u16::from(*low)),
+        octets(element).map(u16::from_be_bytes)
+    }
+}
+
+impl Value for L3Message {
+    ghost form = { Octets 1 251 };
+
+    ghost held = { λ o. record { start = start_of o; len = length (value_of o) } };
+
+    fn of(element: Element<'_>) -> Result<L3Message, Fault> {
+        match element.value.len() {
+            len @ 1..=251 => Ok(L3Message {
+                start: element.start,
+                len,
+            }),
             _ => Err(malformed(element)),
         }
     }
 }
 
-/// Where the octets of a value stand that belong to another protocol.
-#[derive(Clone, Copy)]
-pub(crate) struct Opaque {
-    pub(crate) start: usize,
-    pub(crate) len: usize,
-}
-
-/// An L3 message.
-impl Value for Opaque {
-    ghost form = { Octets 1 251 };
-
-    ghost held = { λ o. record { start = start_of o; len = length (value_of o) } };
-
-    fn of(element: Element<'_>) -> Result<Opaque, Fault> {
-        let len = element.value.len();
-        if len < 1 || len > 251 {
-            return Err(malformed(element));
-        }
-        Ok(Opaque {
-            start: element.start,
-            len,
-        })
-    }
-}
-
 /// The address in an IP element.
 pub(crate) fn ip_of(element: Element<'_>) -> Result<Address, Fault>
-    ensures { Answers (form_fault Ip element.entry.id (seen element.entry)) (λ a. coded a ≡ element.entry.value.now) result }
+    ensures { Answers (form_fault (Some Ip) element.entry.id (seen element.entry)) (λ a. coded a ≡ element.entry.value.now) result }
 {
-    match read_ip(element.value) {
-        Some(address) => Ok(address),
-        None => Err(malformed(element)),
-    }
+    read_ip(element.value).ok_or(malformed(element))
 }
 
 /// The address in a name's element.
 pub(crate) fn name_of(element: Element<'_>) -> Result<Address, Fault>
-    ensures { Answers (form_fault (Octets 3 64) element.entry.id (seen element.entry)) (λ a. coded a ≡ 0 ∷ element.entry.value.now) result }
+    ensures { Answers (form_fault (Some (Octets 3 64)) element.entry.id (seen element.entry)) (λ a. coded a ≡ 0 ∷ element.entry.value.now) result }
 {
-    match Name::new(element.value) {
-        Ok(name) => Ok(Address::Named(name)),
-        Err(_) => Err(malformed(element)),
-    }
+    Name::try_from(element.value)
+        .ok()
+        .map(Address::Named)
+        .ok_or(malformed(element))
 }

@@ -1,3 +1,3 @@
-pub mod Keeps
+pub mod Overwritten
 pub mod Rings
 mod Turns

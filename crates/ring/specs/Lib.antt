@@ -1,4 +1,7 @@
+pub mod Answers
+pub mod Keeps
 pub mod Meanings
+pub mod Memories
 pub mod Places
 pub mod Queues
 pub mod Waiting

@@ -1,5 +1,9 @@
 #![tactic(auto)]
-//! A carrier in lent memory: messages wait in places that are used in a ring.
+//! Carriers over places of memory that are used in a ring: one in memory that is lent to it, and one with eight slots of its own.
 
+pub mod answering;
+pub mod eight;
 pub mod lent;
+pub mod line;
+pub mod memory;
 pub mod places;

@@ -1,68 +1,50 @@
--- What the two lists say after an edit of their rows.
-use Rattle.std.proofs.Common.{◌≡◌, ℕ, true, List, map, get_or, is_some, Some, None, sym, ap, ◌∙◌, subst}
+-- What the rows of a list mean after an edit, where `f` says what a row means and `key` what its key is.
+use Rattle.std.proofs.Common.{◌≡◌, ◌≢◌, ℕ, ◌<◌, true, List, [], ◌∷◌, ◌++◌, map, length, get_or, Some, None, Option, refl, sym, ap, ◌∙◌}
+use Rattle.std.proofs.lemmas.List.{get_or_append_left}
 use Rattle.std.specs.Option.{option_map}
-use Rattle.std.proofs.lemmas.List.{map-id}
-use Rattle.values.specs.Values.{point}
-use Rattle.values.specs.declared.access_point.AccessPoint.{AccessPoint}
-use Rattle.tables.specs.declared.entry.Entry.{Entry}
-use Rattle.tables.specs.declared.rows.Rows.{Rows}
-use Rattle.tables.specs.Excluded.{points_in}
-use Rattle.tables.specs.Held.{held}
-use Rattle.tables.specs.Keyed.{Apart, add_in, has, looked_up, place_of, put_in, take_out}
-use Rattle.tables.specs.Kept.{Kept, entered, entries_in, keys}
-use Rattle.tables.proofs.Aparts.{Apart-add, Apart-out, Apart-put}
-use Rattle.tables.proofs.Images.{image_add, image_looked, image_out, image_place, image_put}
-use Rattle.tables.proofs.Looks.{has_added, looked_at, looked_out, looked_put}
+use Rattle.std.proofs.lemmas.Slice.Eq.{bytes_eq-Decides}
+use Rattle.tables.specs.Keyed.{Apart, add_in, has, has_key, looked_up, put_in, take_out}
+use Rattle.tables.proofs.Edits.{apart_add, apart_out, apart_put, found_put, gone, itself, there_added}
+use Rattle.tables.proofs.Images.{image_add, image_found, image_out, image_put}
 
-abbrev key_of : Entry → List ℕ
-key_of e = point e.key
+-- a list whose rows mean their keys
+pub add_means : {X : Type 0} (f : X → List ℕ) (old new : List X) (x : X) → new ≡ add_in f x old → (map f new ≡ add_in itself (f x) (map f old)) × (has itself (f x) (map f new) ≡ true) × (Apart (map f old) → Apart (map f new))
+add_means f old new x e =
+    let rows = ap (map f) e ∙ image_add f itself x old in
+    (rows, rw rows (there_added (has_key itself (f x)) (f x) (map f old) ((bytes_eq-Decides (f x) _).1 refl)), (λ a. rw rows (apart_add (f x) (map f old) a)))
 
-abbrev kept_key : Kept → List ℕ
-kept_key k = k.key
+module _ {X : Type 0} (code : X → List ℕ) where
+  -- none of the first `n` rows has the key
+  abbrev pub Misses : List ℕ → List X → ℕ → Type 0
+  Misses k xs n = (j : ℕ) → j < n → (d : X) → code (get_or xs j d) ≢ k
 
-module _ (old new : Rows Entry) (e : Entry) (h : held new ≡ put_in key_of e (held old)) where
-  pub put_rows : entries_in new ≡ put_in kept_key (entered e) (entries_in old)
-  put_rows = ap (map entered) h ∙ image_put entered kept_key e (held old)
+  -- a row that is added last changes nothing before it
+  pub Misses-push : (x : X) (xs : List X) → Misses (code x) xs (length xs) → Misses (code x) (xs ++ x ∷ []) (length xs)
+  Misses-push x xs m j l d e = m j l d (sym (ap code (get_or_append_left xs (x ∷ []) d j l)) ∙ e)
 
-  pub put_there : looked_up kept_key (point e.key) (entries_in new) ≡ Some (entered e)
-  put_there = ap (looked_up kept_key (point e.key)) put_rows ∙ looked_put kept_key (entered e) (entries_in old)
+  -- keys stay apart where a row is added
+  pub Apart-add : (x : X) (xs : List X) → Apart (map code xs) → Apart (map code (add_in code x xs))
+  Apart-add x xs a = (add_means code xs (add_in code x xs) x refl).2 a
 
-  pub put_distinct : Apart (keys (entries_in old)) → Apart (keys (entries_in new))
-  put_distinct a = subst (λ (ks : List Kept). Apart (keys ks)) (sym put_rows) (Apart-put kept_key (entered e) (entries_in old) a)
+module _ {X Y : Type 0} (f : X → Y) (key : Y → List ℕ) (old new : List X) where
+  abbrev before : List Y
+  before = map f old
 
-module _ (old new : Rows Entry) (k : List ℕ) (h : held new ≡ take_out key_of k (held old)) where
-  pub out_rows : entries_in new ≡ take_out kept_key k (entries_in old)
-  out_rows = ap (map entered) h ∙ image_out entered kept_key k (held old)
+  abbrev after : List Y
+  after = map f new
 
-  pub out_gone : Apart (keys (entries_in old)) → looked_up kept_key k (entries_in new) ≡ None
-  out_gone a = ap (looked_up kept_key k) out_rows ∙ looked_out kept_key k (entries_in old) a
+  pub put_means : (x : X) → new ≡ put_in (λ y. key (f y)) x old → (after ≡ put_in key (f x) before) × (looked_up key (key (f x)) after ≡ Some (f x)) × (Apart (map key before) → Apart (map key after))
+  put_means x e =
+      let rows = ap (map f) e ∙ image_put f key x old in
+      let keys = ap (map key) rows ∙ image_put key itself (f x) before in
+      (rows, rw rows (found_put _ (f x) before ((bytes_eq-Decides (key (f x)) _).1 refl)), (λ a. rw keys (apart_put (key (f x)) (map key before) a)))
 
-  pub out_distinct : Apart (keys (entries_in old)) → Apart (keys (entries_in new))
-  out_distinct a = subst (λ (ks : List Kept). Apart (keys ks)) (sym out_rows) (Apart-out kept_key k (entries_in old) a)
+  none_under : (o : Option Y) → option_map key o ≡ None → o ≡ None
+  none_under None e = refl
+  none_under (Some y) e = cc
 
-module _ (rows : Rows Entry) (k : List ℕ) where
-  pub got_some : (i : ℕ) (e : Entry) → Some i ≡ place_of key_of k (held rows) → e ≡ get_or (held rows) i e → Some (entered e) ≡ looked_up kept_key k (entries_in rows)
-  got_some i e p q =
-      ap (option_map entered) (ap Some q ∙ sym (looked_at key_of k (held rows) (Some i) p e))
-      ∙ image_looked entered kept_key k (held rows)
-
-  pub got_none : None ≡ place_of key_of k (held rows) → None ≡ looked_up kept_key k (entries_in rows)
-  got_none p = ap (option_map entered) (sym (looked_at key_of k (held rows) None p)) ∙ image_looked entered kept_key k (held rows)
-
-abbrev itself : List ℕ → List ℕ
-itself p = p
-
-module _ (old new : Rows AccessPoint) (p : AccessPoint) (h : held new ≡ add_in point p (held old)) where
-  pub add_rows : points_in new ≡ add_in itself (point p) (points_in old)
-  add_rows = ap (map point) h ∙ image_add point itself p (held old)
-
-  pub add_there : has itself (point p) (points_in new) ≡ true
-  add_there = ap (has itself (point p)) add_rows ∙ has_added itself (point p) (points_in old)
-
-  pub add_distinct : Apart (points_in old) → Apart (points_in new)
-  add_distinct a =
-      let added = Apart-add itself (point p) (points_in old) (subst Apart (sym (map-id (points_in old))) a) in
-      subst Apart (map-id (add_in itself (point p) (points_in old)) ∙ sym add_rows) added
-
-pub has_point : (rows : Rows AccessPoint) (k : List ℕ) → has point k (held rows) ≡ has itself k (points_in rows)
-has_point rows k = ap is_some (image_place point itself k (held rows))
+  pub out_means : (k : List ℕ) → new ≡ take_out (λ y. key (f y)) k old → Apart (map key before) → (after ≡ take_out key k before) × (looked_up key k after ≡ None) × Apart (map key after)
+  out_means k e a =
+      let rows = ap (map f) e ∙ image_out f key k old in
+      let keys = ap (map key) rows ∙ image_out key itself k before in
+      (rows, none_under _ (image_found key (has_key itself k) after ∙ rw keys (gone k (map key before) a)), rw keys (apart_out k (map key before) a))

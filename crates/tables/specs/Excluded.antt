@@ -6,5 +6,5 @@ use Rattle.tables.specs.declared.rows.Rows.{Rows}
 use Rattle.tables.specs.Held.{held}
 
 -- the access points in its rows
-abbrev pub points_in : Rows AccessPoint → List (List ℕ)
+abbrev pub points_in : Rows AccessPoint 16 → List (List ℕ)
 points_in r = map point (held r)

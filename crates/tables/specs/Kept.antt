@@ -21,5 +21,5 @@ abbrev pub keys : List Kept → List (List ℕ)
 keys = map (λ k. k.key)
 
 -- what the rows of a kept table say
-abbrev pub entries_in : Rows Entry → List Kept
+abbrev pub entries_in : Rows Entry 16 → List Kept
 entries_in r = map entered (held r)

@@ -1,12 +1,11 @@
 -- Lists of rows that are told apart by a key, a list of octets. The oldest row comes first.
-use Rattle.std.specs.Prelude.{◌≡◌, ℕ, suc, ◌<◌, Bool, cond, List, [], ◌∷◌, ◌++◌, length, drop, is_some, Some, None, Option, ◌≢◌, nat_lt, slice_index_or, slice_set}
+use Rattle.std.specs.Prelude.{ℕ, Bool, cond, List, [], ◌∷◌, ◌++◌, length, drop, is_some, Some, None, Option, ◌≢◌, nat_lt, slice_set, AllPairs, find, position}
 use Rattle.std.specs.List.{remove}
-use Rattle.std.specs.Option.{option_map}
 use Rattle.std.specs.Str.{bytes_eq}
 
 -- no two keys are equal
 abbrev pub Apart : List (List ℕ) → Type 0
-Apart ks = (i j : ℕ) → i < j → j < length ks → slice_index_or ks i [] ≢ slice_index_or ks j []
+Apart = AllPairs (λ a b. a ≢ b)
 
 module _ {X : Type 0} where
   -- a row added last: of 16 rows, the oldest goes
@@ -24,18 +23,13 @@ module _ {X : Type 0} where
   out_at None xs = xs
 
 module _ {X : Type 0} (code : X → List ℕ) where
-  -- the row at a place has the key
-  abbrev pub Hits : List ℕ → List X → ℕ → Type 0
-  Hits k xs i = (d : X) → code (slice_index_or xs i d) ≡ k
-
-  -- none of the first `n` rows has the key
-  abbrev pub Misses : List ℕ → List X → ℕ → Type 0
-  Misses k xs n = (j : ℕ) → j < n → (d : X) → code (slice_index_or xs j d) ≢ k
+  -- whether a row has the key
+  abbrev pub has_key : List ℕ → X → Bool
+  has_key k x = bytes_eq (code x) k
 
   -- the place of the first row with the key
   abbrev pub place_of : List ℕ → List X → Option ℕ
-  place_of k [] = None
-  place_of k (x ∷ xs) = cond (bytes_eq (code x) k) (Some 0) (option_map suc (place_of k xs))
+  place_of k = position (has_key k)
 
   -- whether some row has the key
   abbrev pub has : List ℕ → List X → Bool
@@ -43,8 +37,7 @@ module _ {X : Type 0} (code : X → List ℕ) where
 
   -- the first row with the key
   abbrev pub looked_up : List ℕ → List X → Option X
-  looked_up k [] = None
-  looked_up k (x ∷ xs) = cond (bytes_eq (code x) k) (Some x) (looked_up k xs)
+  looked_up k = find (has_key k)
 
   -- a row put into a list: the one with its key is rewritten where it stands; otherwise it is added last
   abbrev pub put_in : X → List X → List X

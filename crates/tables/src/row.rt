@@ -2,18 +2,18 @@
 
 ghost use Rattle.std.specs.Prelude.{◌≡◌, ℕ, List, Decides};
 ghost use Rattle.values.specs.Values.{coded as address_code, point};
+ghost use Rattle.values.proofs.Equal.{Decides-coded, Decides-point};
 
 use values::access_point::AccessPoint;
 use values::address::Address;
 
 /// What rows are told apart by.
-pub trait Key {
+pub trait Key: Eq {
     /// The octets that a key stands for.
     ghost code: { Self → List ℕ };
 
-    /// Whether two keys are the same.
-    fn same(&self, other: &Self) -> bool
-        ensures { Decides result (code self.now ≡ code other.now) };
+    /// Two keys are equal where their octets are.
+    ghost decides: { (a b : Self) → Decides (Self.eq a b) (code a ≡ code b) };
 }
 
 /// What stands in a list and has a key.
@@ -32,37 +32,22 @@ pub trait Row {
 impl Key for AccessPoint {
     ghost code = { point };
 
-    fn same(&self, other: &AccessPoint) -> bool {
-        AccessPoint::same(self, other)
-    }
-}
-
-/// In a list of access points, each is its own key.
-impl Row for AccessPoint {
-    type Key = AccessPoint;
-
-    ghost coded = { point };
-
-    fn key(&self) -> &AccessPoint {
-        self
-    }
+    ghost decides = { Decides-point };
 }
 
 impl Key for Address {
     ghost code = { address_code };
 
-    fn same(&self, other: &Address) -> bool {
-        Address::same(self, other)
-    }
+    ghost decides = { Decides-coded };
 }
 
-/// In a list of addresses, each is its own key.
-impl Row for Address {
-    type Key = Address;
+/// In a list of keys, each is its own key.
+impl<K: Key> Row for K {
+    type Key = K;
 
-    ghost coded = { address_code };
+    ghost coded = { K.code };
 
-    fn key(&self) -> &Address {
+    fn key(&self) -> &K {
         self
     }
 }

@@ -1,5 +1,5 @@
 -- Octets as hexadecimal text.
-use Rattle.std.specs.Prelude.{ℕ, ◌+◌, ◌-◌, ◌*◌, Bool, cond, ◌&&◌, ◌||◌, List, [], ◌∷◌, ◌++◌, length, Some, None, Option, ◌==◌, nat_le, nat_lt, slice_index}
+use Rattle.std.specs.Prelude.{ℕ, ◌+◌, ◌-◌, ◌*◌, Bool, cond, ◌&&◌, ◌||◌, List, [], ◌∷◌, ◌++◌, Some, None, Option, ◌==◌, nat_le}
 
 -- a character from `low` to `high`
 abbrev within : ℕ → ℕ → ℕ → Bool
@@ -45,11 +45,3 @@ octets_in (a ∷ b ∷ rest) =
     cond (a == 35) (Some [])
     (cond (white a) (octets_in (b ∷ rest))
     (then (octet_value a b) (octets_in rest)))
-
--- whether white space stands at a place of a line: a carriage return is white space at the end alone
-abbrev pub white_at : List ℕ → ℕ → Bool
-white_at line at = white (slice_index line at) || (slice_index line at == 13 && length line - at == 1)
-
--- the octet whose two digits stand at a place
-abbrev pub octet_at : List ℕ → ℕ → Option ℕ
-octet_at line at = cond (nat_lt (length line - at) 2) None (octet_value (slice_index line at) (slice_index line (at + 1)))

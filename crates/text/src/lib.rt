@@ -1,21 +1,43 @@
 #![tactic(auto)]
 //! Octets as hexadecimal text.
 
-ghost use Rattle.std.specs.Prelude.{◌≡◌, ◌<◌, length, IfOk};
-ghost use Rattle.text.specs.Hex.{digit_value, octet_value, white_at, octet_at};
-ghost use Rattle.text.specs.Lines.{Says};
+ghost use Rattle.std.specs.Prelude.{◌≡◌, alloc_error};
+ghost use Rattle.text.specs.declared.LineError.TheVariants.{NoMemory};
+ghost use Rattle.text.specs.Hex.{digit_value, octet_value};
+ghost use Rattle.text.specs.Lines.{Says, error_text};
 
-use std::alloc::{AllocError, Global};
+use std::alloc::{AllocError, AllocFailed, Global};
+use std::error::Error;
+use std::fmt;
 
-/// What a line of hexadecimal text says.
-#[derive(Drop)]
-pub enum Line {
-    /// Nothing but white space or a comment.
-    Blank,
-    /// One octet or more.
-    Octets(Vec<u8>),
-    /// Something else.
+/// Why a line gives no octets.
+#[derive(Clone, Copy, Debug, PartialEq, Eq)]
+pub enum LineError {
+    /// The line is something else than octets.
     NotOctets,
+    /// There is no memory for its octets.
+    NoMemory(AllocError),
+}
+
+impl fmt::Display for LineError {
+    ghost output = { error_text };
+
+    fn fmt<W: fmt::Write>(&self, f: &mut fmt::Formatter<W>) -> fmt::Result {
+        match self {
+            LineError::NotOctets => f.write_str("not octets in hexadecimal"),
+            LineError::NoMemory(_) => f.write_str("no memory for the octets"),
+        }
+    }
+}
+
+impl Error for LineError {}
+
+impl<T: Drop> From<AllocFailed<T>> for LineError {
+    ghost from_gives = { λ _ e. e ≡ NoMemory alloc_error };
+
+    fn from(failed: AllocFailed<T>) -> LineError {
+        LineError::NoMemory(AllocError::from(failed))
+    }
 }
 
 /// The value of a hexadecimal digit of either case.
@@ -37,48 +59,28 @@ pub fn octet(high: u8, low: u8) -> Option<u8>
     Some(digit(high)? * 16 + digit(low)?)
 }
 
-// Whether white space stands at `at`.
-fn white_at(line: &[u8], at: usize) -> bool
-    requires { at < length line.now }
-    ensures { result ≡ white_at line.now at }
-{
-    let b = line[at];
-    b == b' ' || b == b'\t' || (b == b'\r' && line.len() - at == 1)
-}
-
-// The octet whose two digits stand at `at`.
-fn octet_at(line: &[u8], at: usize) -> Option<u8>
-    requires { at < length line.now }
-    ensures { result ≡ octet_at line.now at }
-{
-    if line.len() - at < 2 {
-        return None;
-    }
-    octet(line[at], line[at + 1])
-}
-
-/// What a line says: octets of two adjacent digits each, with white space before, between and after them, and then
-/// perhaps a comment that begins with `#`. A carriage return may end the line.
-pub fn read_line(heap: Global, line: &[u8]) -> Result<Line, AllocError>
-    ensures { IfOk result (λ l. Says line.now l) }
+/// The octets that a line says, or `None` of a blank one: two adjacent digits each, with white space before, between and
+/// after them, and then perhaps a comment that begins with `#`. A carriage return may end the line.
+pub fn read_line(heap: Global, line: &[u8]) -> Result<Option<Vec<u8>>, LineError>
+    ensures { Says line.now result }
 {
     let mut octets = Vec::new(heap);
-    let mut at = 0;
-    while at < line.len() && line[at] != b'#' {
-        if white_at(line, at) {
-            at += 1;
-            continue;
-        }
-        let Some(value) = octet_at(line, at) else {
-            return Ok(Line::NotOctets);
+    let mut rest = line;
+    loop {
+        rest = match rest {
+            [] | [b'#', ..] | [b'\r'] => break,
+            [b' ' | b'\t', tail @ ..] => tail,
+            [high, low, tail @ ..] => {
+                octets.push(octet(*high, *low).ok_or(LineError::NotOctets)?)?;
+                tail
+            }
+            [_] => return Err(LineError::NotOctets),
         };
-        octets.push(value)?;
-        at += 2;
     }
     if octets.is_empty() {
-        return Ok(Line::Blank);
+        return Ok(None);
     }
-    Ok(Line::Octets(octets))
+    Ok(Some(octets))
 }
 
 #[cfg(test)]
@@ -88,7 +90,7 @@ mod tests {
 
     #[test]
     fn reads_octets(rt: HostRuntime) -> Result<(), Fail> {
-        let Line::Octets(octets) = read_line(rt.alloc(), b"\t00 0905fF # a comment\r")? else {
+        let Some(octets) = read_line(rt.alloc(), b"\t00 0905fF # a comment\r")? else {
             return Err(Fail::new("no octets"));
         };
         assert_eq!(rt; octets.as_slice(), [0x00, 0x09, 0x05, 0xff].as_slice());
@@ -97,18 +99,18 @@ mod tests {
 
     #[test]
     fn tells_blank_lines(rt: HostRuntime) -> Result<(), Fail> {
-        assert!(rt; matches!(read_line(rt.alloc(), b"")?, Line::Blank));
-        assert!(rt; matches!(read_line(rt.alloc(), b" \t\r")?, Line::Blank));
-        assert!(rt; matches!(read_line(rt.alloc(), b"# 00 01")?, Line::Blank));
+        assert!(rt; matches!(read_line(rt.alloc(), b"")?, None));
+        assert!(rt; matches!(read_line(rt.alloc(), b" \t\r")?, None));
+        assert!(rt; matches!(read_line(rt.alloc(), b"# 00 01")?, None));
         Ok(())
     }
 
     #[test]
     fn tells_what_is_no_octets(rt: HostRuntime) -> Result<(), Fail> {
-        assert!(rt; matches!(read_line(rt.alloc(), b"00 1")?, Line::NotOctets));
-        assert!(rt; matches!(read_line(rt.alloc(), b"0 0")?, Line::NotOctets));
-        assert!(rt; matches!(read_line(rt.alloc(), b"00\r01")?, Line::NotOctets));
-        assert!(rt; matches!(read_line(rt.alloc(), b"0g")?, Line::NotOctets));
+        assert!(rt; matches!(read_line(rt.alloc(), b"00 1"), Err(LineError::NotOctets)));
+        assert!(rt; matches!(read_line(rt.alloc(), b"0 0"), Err(LineError::NotOctets)));
+        assert!(rt; matches!(read_line(rt.alloc(), b"00\r01"), Err(LineError::NotOctets)));
+        assert!(rt; matches!(read_line(rt.alloc(), b"0g"), Err(LineError::NotOctets)));
         Ok(())
     }
 }

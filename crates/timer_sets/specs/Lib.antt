@@ -1,4 +1,2 @@
-pub mod ByTimers
-pub mod Counts
 pub mod Moments
 pub mod Sets

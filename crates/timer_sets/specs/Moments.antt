@@ -1,7 +1,9 @@
 -- Timers that are due at a moment of a clock with 32 bits.
 use Rattle.std.specs.Prelude.{◌≡◌, ℕ, ◌+◌, ◌-◌, ◌%◌, ◌^◌, Bool, true, Some, None, Option}
-use Rattle.timer_sets.specs.declared.by_timer.ByTimer.{ByTimer}
-use Rattle.timers.specs.Timed.{Timed, startable}
+use Rattle.timers.specs.declared.by_timer.ByTimer.{ByTimer}
+use Rattle.timers.specs.ByTimers.{mapped, Each}
+use Rattle.timers.specs.Limits.{startable}
+use Rattle.timers.specs.Timed.{Timed}
 
 -- the moment that is n ticks after another: the clock wraps
 abbrev pub after : ℕ → ℕ → ℕ
@@ -23,18 +25,8 @@ is_ahead clock (Some moment) = startable (ticks_between clock moment)
 
 -- every running timer's moment does
 abbrev pub AllAhead : ℕ → ByTimer (Option ℕ) → Type 0
-AllAhead clock b =
-    (is_ahead clock b.tu3904 ≡ true)
-    × (is_ahead clock b.tu3906 ≡ true)
-    × (is_ahead clock b.tu3907 ≡ true)
-    × (is_ahead clock b.tu3908 ≡ true)
+AllAhead clock b = Each (λ due. is_ahead clock due ≡ true) b
 
 -- the ticks left of each timer
 abbrev pub awaited : ℕ → ByTimer (Option ℕ) → Timed
-awaited clock b =
-    record {
-      tu3904 = ticks_to clock b.tu3904;
-      tu3906 = ticks_to clock b.tu3906;
-      tu3907 = ticks_to clock b.tu3907;
-      tu3908 = ticks_to clock b.tu3908;
-    }
+awaited clock b = mapped (ticks_to clock) b

@@ -2,13 +2,12 @@
 use Rattle.std.specs.Prelude.{ℕ}
 use Rattle.timer_sets.specs.declared.countdown.Countdown.{Countdown}
 use Rattle.timer_sets.specs.declared.due_moments.DueMoments.{DueMoments}
-use Rattle.timer_sets.specs.Counts.{counted}
 use Rattle.timer_sets.specs.Moments.{awaited}
 use Rattle.timers.specs.Timed.{Timed}
 
 -- the ticks left in a countdown
 abbrev pub of_countdown : Countdown → Timed
-of_countdown c = counted c.left
+of_countdown c = c.left
 
 -- the clock of due moments
 abbrev pub clock_of : DueMoments → ℕ

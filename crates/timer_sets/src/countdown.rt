@@ -1,14 +1,14 @@
 //! Timers that are counted down.
 
-ghost use Rattle.timer_sets.specs.Counts.{AllWithin};
+ghost use Rattle.timers.specs.Timed.{Kept};
 
-use crate::by_timer::ByTimer;
+use timers::by_timer::ByTimer;
 
 /// The ticks left of each timer, counted down at each tick.
 #[derive(Drop)]
 pub struct Countdown {
     left: ByTimer<u32>,
-    ghost within: { AllWithin left },
+    ghost kept: { Kept left },
 }
 
 mod calls;

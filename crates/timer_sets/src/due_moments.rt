@@ -2,7 +2,7 @@
 
 ghost use Rattle.timer_sets.specs.Moments.{AllAhead};
 
-use crate::by_timer::ByTimer;
+use timers::by_timer::ByTimer;
 
 /// The moment at which each running timer is due, and the clock, which wraps after 4,294,967,295.
 #[derive(Drop)]

@@ -1,6 +1,5 @@
 #![tactic(auto)]
 //! Two sets of timers: ticks that are counted down, and moments of a clock.
 
-mod by_timer;
 pub mod countdown;
 pub mod due_moments;

@@ -1,9 +1,10 @@
 //! What is done with any set of timers.
 
-ghost use Rattle.std.specs.Prelude.{◌≡◌, cond};
-ghost use Rattle.timers.specs.Timed.{left_of, off, only, passed, startable};
+ghost use Rattle.std.specs.Prelude.{◌≡◌, if◌then◌else◌};
+ghost use Rattle.timers.specs.Limits.{checked, startable};
+ghost use Rattle.timers.specs.Timed.{left_of, off, only, passed};
 
-use crate::limit::can_start;
+use crate::limit::{TicksOutOfRange, check_ticks};
 use crate::timer::Timer;
 use crate::timer_set::TimerSet;
 
@@ -11,20 +12,21 @@ use crate::timer_set::TimerSet;
 pub fn stop_all<T: TimerSet>(timers: &mut T)
     ensures { T.timed timers.new ≡ off }
 {
-    timers.stop(Timer::Tu3904);
-    timers.stop(Timer::Tu3906);
-    timers.stop(Timer::Tu3907);
-    timers.stop(Timer::Tu3908);
+    for timer in Timer::ALL {
+        timers.stop(timer);
+    }
 }
 
 /// Starts a timer and turns the others off, if it can be started with so many ticks; otherwise changes nothing.
-pub fn run_only<T: TimerSet>(timers: &mut T, timer: Timer, ticks: u32) -> bool
-    ensures answer { result ≡ startable ticks }
-    ensures leaves { T.timed timers.new ≡ cond result (only timer ticks) (T.timed timers.old) }
+pub fn run_only<T: TimerSet>(
+    timers: &mut T,
+    timer: Timer,
+    ticks: u32,
+) -> Result<(), TicksOutOfRange>
+    ensures answer { result ≡ checked ticks }
+    ensures leaves { T.timed timers.new ≡ (if startable ticks then only timer ticks else T.timed timers.old) }
 {
-    if !can_start(ticks) {
-        return false;
-    }
+    check_ticks(ticks)?;
     stop_all(timers);
     timers.start(timer, ticks)
 }
@@ -43,11 +45,7 @@ pub fn run_out<T: TimerSet>(timers: &mut T, timer: Timer) -> u32
     ensures answer { result ≡ left_of (T.timed timers.old) timer }
     ensures leaves { T.timed timers.new ≡ passed result (T.timed timers.old) }
 {
-    let mut ticks = 0;
-    let mut running = timers.left(timer) > 0;
-    while running {
-        running = !timers.tick().has(timer);
-        ticks += 1;
-    }
+    let ticks = timers.left(timer);
+    pass(timers, ticks);
     ticks
 }

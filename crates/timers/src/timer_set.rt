@@ -1,18 +1,21 @@
 //! What a set of timers does.
 
-ghost use Rattle.std.specs.Prelude.{◌≡◌, cond};
-ghost use Rattle.timers.specs.Timed.{Timed, Kept, left_of, ran_out, set_to, startable, ticked};
+ghost use Rattle.std.specs.Prelude.{◌≡◌, if◌then◌else◌};
+ghost use Rattle.timers.specs.Limits.{checked, startable};
+ghost use Rattle.timers.specs.Timed.{Timed, Kept, left_of, ran_out, set_to, ticked};
 
-use crate::timer::{Expired, Timer};
+use crate::by_timer::Expired;
+use crate::limit::TicksOutOfRange;
+use crate::timer::Timer;
 
 /// The four timers: each is off, or has 1 to `LONGEST` ticks left.
 pub trait TimerSet {
     ghost timed: { Self → Timed };
 
     /// Starts a timer, running or not, if it can be started with so many ticks; otherwise changes nothing.
-    fn start(&mut self, timer: Timer, ticks: u32) -> bool
-        ensures answer { result ≡ startable ticks }
-        ensures leaves { timed self.new ≡ cond result (set_to (timed self.old) timer ticks) (timed self.old) };
+    fn start(&mut self, timer: Timer, ticks: u32) -> Result<(), TicksOutOfRange>
+        ensures answer { result ≡ checked ticks }
+        ensures leaves { timed self.new ≡ (if startable ticks then set_to (timed self.old) timer ticks else timed self.old) };
 
     /// Turns a timer off.
     fn stop(&mut self, timer: Timer)

@@ -2,6 +2,7 @@
 
 use carrier::acts::connect;
 use carrier::carrying::Carrier;
+use carrier::connection::Connection;
 use layout::fault::Fault;
 use ring::lent::Ring;
 use slots::eight::Slots;
@@ -12,6 +13,11 @@ use values::address::Address;
 const GATEWAY: Address = Address::V4([192, 168, 11, 33]);
 
 const CONTROLLER: Address = Address::V4([172, 16, 0, 193]);
+
+const CONNECTION: Connection = Connection {
+    controller: CONTROLLER,
+    port: 14001,
+};
 
 // What a run showed.
 #[derive(Clone, Copy, PartialEq, Eq, Debug)]
@@ -27,13 +33,9 @@ struct Seen {
 // Sends messages of 4 to 15 octets, and says how many were accepted.
 fn fill<C: Carrier>(carrier: &mut C) -> usize {
     let octets = [7; 16];
-    let mut accepted: usize = 0;
-    for len in 4..16 {
-        if carrier.send(&octets[0..len]) {
-            accepted = accepted.saturating_add(1);
-        }
-    }
-    accepted
+    (4..16)
+        .filter(|len| carrier.send(&octets[..*len]).is_ok())
+        .count()
 }
 
 // Takes as many messages as there are lengths to fill in.
@@ -50,8 +52,8 @@ fn take_each<C: Carrier>(
 
 fn drive<C: Carrier>(carrier: &mut C) -> Result<Seen, Fault> {
     let mut memory = [0; 512];
-    let unconnected = carrier.send(&[0; 4]);
-    let _connected = connect(carrier, &GATEWAY, &CONTROLLER, 14001);
+    let unconnected = carrier.send(&[0; 4]).is_ok();
+    let _connected = connect(carrier, &GATEWAY, &CONNECTION);
     let filled = fill(carrier);
     let mut taken = [0; 3];
     take_each(carrier, &mut memory, &mut taken)?;
@@ -90,8 +92,11 @@ const OF_ONE: Seen = Seen {
 #[test]
 fn a_ring_and_slots_of_eight_do_the_same(rt: HostRuntime) -> Result<(), Fail> {
     let mut memory = [0xEE; 4112];
-    let mut ring = Ring::new(&mut memory, AddressList::new(&[CONTROLLER, GATEWAY])?);
-    let mut slots = Slots::new(AddressList::new(&[])?);
+    let mut ring = Ring::new(
+        &mut memory,
+        AddressList::try_from([CONTROLLER, GATEWAY].as_slice())?,
+    );
+    let mut slots = Slots::new(AddressList::try_from([].as_slice())?);
     assert_eq!(rt; drive(&mut ring)?, OF_EIGHT);
     assert_eq!(rt; drive(&mut slots)?, OF_EIGHT);
     let mut lent = &mut slots;
@@ -102,7 +107,10 @@ fn a_ring_and_slots_of_eight_do_the_same(rt: HostRuntime) -> Result<(), Fail> {
 #[test]
 fn a_ring_of_one_place_is_filled_and_emptied(rt: HostRuntime) -> Result<(), Fail> {
     let mut memory = [0xEE; 1027];
-    let mut ring = Ring::new(&mut memory, AddressList::new(&[CONTROLLER, GATEWAY])?);
+    let mut ring = Ring::new(
+        &mut memory,
+        AddressList::try_from([CONTROLLER, GATEWAY].as_slice())?,
+    );
     assert_eq!(rt; drive(&mut ring)?, OF_ONE);
     Ok(())
 }
@@ -110,8 +118,8 @@ fn a_ring_of_one_place_is_filled_and_emptied(rt: HostRuntime) -> Result<(), Fail
 #[test]
 fn nothing_is_sent_where_nothing_answers(rt: HostRuntime) -> Result<(), Fail> {
     let mut memory = [0xEE; 514];
-    let mut ring = Ring::new(&mut memory, AddressList::new(&[GATEWAY])?);
-    let mut slots = Slots::new(AddressList::new(&[CONTROLLER])?);
+    let mut ring = Ring::new(&mut memory, AddressList::try_from([GATEWAY].as_slice())?);
+    let mut slots = Slots::new(AddressList::try_from([CONTROLLER].as_slice())?);
     assert_eq!(rt; drive(&mut ring)?.filled, 0);
     assert!(rt; ring.tunnel().is_none());
     assert_eq!(rt; drive(&mut slots)?.filled, 0);

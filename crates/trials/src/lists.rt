@@ -7,7 +7,7 @@ use values::access_point::AccessPoint;
 use values::address::Address;
 
 fn point(number: u8) -> AccessPoint {
-    AccessPoint::of([0, 0x11, 0x22, 0x33, 0x44, number])
+    AccessPoint::from([0, 0x11, 0x22, 0x33, 0x44, number])
 }
 
 fn entry(number: u8, port: u16) -> Entry {
@@ -20,12 +20,7 @@ fn entry(number: u8, port: u16) -> Entry {
 }
 
 fn port_at(table: &KeptTable, place: usize) -> Option<u16> {
-    let rows = table.rows();
-    if place < rows.len() {
-        Some(rows[place].port)
-    } else {
-        None
-    }
+    table.rows().get(place).map(|row| row.port)
 }
 
 #[test]
@@ -43,7 +38,7 @@ fn a_rewritten_entry_keeps_its_place(rt: HostRuntime) {
 fn the_seventeenth_entry_drops_the_oldest(rt: HostRuntime) {
     let mut table = KeptTable::new();
     for number in 0..17 {
-        table.put(entry(number, 14000 + number as u16));
+        table.put(entry(number, 14000 + u16::from(number)));
     }
     assert!(rt; table.get(&point(0)).is_none());
     assert_eq!(rt; port_at(&table, 0), Some(14001));
@@ -73,5 +68,5 @@ fn a_point_excluded_again_changes_nothing(rt: HostRuntime) {
     assert!(rt; list.contains(&point(1)) && !list.contains(&point(3)));
     let rows = list.rows();
     assert!(rt; rows.len() == 2);
-    assert!(rt; rows[0].same(&point(1)));
+    assert!(rt; rows[0] == point(1));
 }

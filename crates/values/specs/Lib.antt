@@ -1,3 +1,4 @@
 pub mod Bounds
 pub mod Forms
+pub mod Octets
 pub mod Values

@@ -1,22 +1,22 @@
 -- What the values of the protocol are made of.
-use Rattle.std.specs.Prelude.{ℕ, List, ◌∷◌, take}
+use Rattle.std.specs.Prelude.{ℕ, List, ◌∷◌}
 use Rattle.values.specs.declared.access_point.AccessPoint.{AccessPoint}
-use Rattle.values.specs.declared.identity.MobileIdentity.{MobileIdentity}
-use Rattle.values.specs.declared.name.Name.{Name}
+use Rattle.values.specs.declared.octets.Octets.{Octets}
 use Rattle.values.specs.declared.address.Address.{Address}
 use Rattle.values.specs.declared.address.Address.TheVariants.{V4, V6, Named}
+use Rattle.values.specs.Octets.{octets_of}
 
 -- the six octets of an access point
 abbrev pub point : AccessPoint → List ℕ
 point p = p.octets
 
 -- the octets of a mobile identity
-abbrev pub identified : MobileIdentity → List ℕ
-identified i = take i.len i.octets
+abbrev pub identified : Octets 1 9 → List ℕ
+identified i = octets_of i
 
 -- the octets of a name
-abbrev pub spelled : Name → List ℕ
-spelled n = take n.len n.octets
+abbrev pub spelled : Octets 3 64 → List ℕ
+spelled n = octets_of n
 
 -- an address by its form and its octets: two addresses are the same where these are.
 -- For an IP address this is also the value of its element; no IP value begins with 0

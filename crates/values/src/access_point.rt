@@ -1,49 +1,42 @@
 //! Access points.
 
-ghost use Rattle.std.specs.Prelude.{◌≡◌, length, Decides, MatchResult, ◌≢◌};
+ghost use Rattle.std.specs.Prelude.{◌≡◌, length, MatchResult, ◌≢◌};
 ghost use Rattle.layout.specs.Faults.{Refuses};
 ghost use Rattle.values.specs.Values.{point};
 
-use crate::octets::same_octets;
 use layout::fault::Fault;
 
 /// An access point: the six octets of its radio identity.
-#[derive(Clone, Copy)]
+#[derive(Clone, Copy, PartialEq, Eq, Debug)]
 pub struct AccessPoint {
     octets: [u8; 6],
 }
 
-impl AccessPoint {
-    /// The access point with these octets.
-    pub fn new(octets: &[u8]) -> Result<AccessPoint, Fault>
-        ensures { MatchResult result (λ p. (length octets.now ≡ 6) × (point p ≡ octets.now)) (λ f. (length octets.now ≢ 6) × Refuses 6 0 0 f) }
-    {
-        if octets.len() != 6 {
-            return Err(Fault::OutOfBounds);
-        }
-        let mut own = [0; 6];
-        own.copy_from_slice(octets);
-        Ok(AccessPoint { octets: own })
-    }
+impl From<[u8; 6]> for AccessPoint {
+    ghost from_gives = { λ octets p. point p ≡ octets };
 
-    /// The access point with these six octets.
-    pub fn of(octets: [u8; 6]) -> AccessPoint
-        ensures { point result ≡ octets }
-    {
+    fn from(octets: [u8; 6]) -> AccessPoint {
         AccessPoint { octets }
     }
+}
 
+impl TryFrom<&[u8]> for AccessPoint {
+    type Error = Fault;
+
+    ghost try_from_gives = { λ octets r. MatchResult r (λ p. (length octets.now ≡ 6) × (point p ≡ octets.now)) (λ f. (length octets.now ≢ 6) × Refuses 6 0 0 f) };
+
+    fn try_from(octets: &[u8]) -> Result<AccessPoint, Fault> {
+        <[u8; 6]>::try_from(octets)
+            .map(AccessPoint::from)
+            .map_err(|_| Fault::OutOfBounds)
+    }
+}
+
+impl AccessPoint {
     /// Its octets.
     pub fn octets(&self) -> &[u8]
         ensures { result.now ≡ point self.now }
     {
         &self.octets
-    }
-
-    /// Whether two access points are the same.
-    pub fn same(&self, other: &AccessPoint) -> bool
-        ensures { Decides result (point self.now ≡ point other.now) }
-    {
-        same_octets(&self.octets, &other.octets)
     }
 }

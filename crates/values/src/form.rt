@@ -1,38 +1,25 @@
-//! The listed elements and the forms of their values.
+//! The forms of the values of the listed elements.
 
 ghost use Rattle.std.specs.Prelude.{◌≡◌};
 ghost use Rattle.values.specs.Forms.{form_of, has_form};
 
 use crate::address::read_ip;
+use crate::listed::Listed;
 
 /// What a value has to be.
-#[derive(Clone, Copy)]
+#[derive(Clone, Copy, PartialEq, Eq, Debug)]
 pub enum Form {
     /// So many octets.
     Octets { least: usize, most: usize },
     /// An IP address of either version, with its form octet.
     Ip,
-    /// Of an element that is not listed: nothing is.
-    Unlisted,
 }
 
-/// The form of the value of an element.
-pub fn form_of(id: u8) -> Form
+/// The form of the value of an element, if that is listed. Any octet may be asked for.
+pub fn form_of(id: u8) -> Option<Form>
     ensures { result ≡ form_of id }
 {
-    match id {
-        1 => Form::Octets { least: 1, most: 9 },
-        3 => Form::Octets { least: 7, most: 7 },
-        9 | 97 => Form::Ip,
-        10 | 98 => Form::Octets { least: 3, most: 64 },
-        11 | 21 | 29 | 49 | 50 | 67 | 68 => Form::Octets { least: 1, most: 1 },
-        16 | 22 | 103 => Form::Octets { least: 2, most: 2 },
-        26 => Form::Octets {
-            least: 1,
-            most: 251,
-        },
-        _ => Form::Unlisted,
-    }
+    Listed::try_from(id).ok().map(Listed::form)
 }
 
 impl Form {
@@ -41,9 +28,8 @@ impl Form {
         ensures { result ≡ has_form self.now value.now }
     {
         match self {
-            Form::Octets { least, most } => *least <= value.len() && value.len() <= *most,
+            Form::Octets { least, most } => (*least..=*most).contains(&value.len()),
             Form::Ip => read_ip(value).is_some(),
-            Form::Unlisted => false,
         }
     }
 }

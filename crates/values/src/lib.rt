@@ -3,7 +3,9 @@
 
 pub mod access_point;
 pub mod address;
+pub mod bounds;
 pub mod form;
 pub mod identity;
+pub mod listed;
 pub mod name;
-mod octets;
+pub mod octets;

@@ -1,8 +1,8 @@
 -- A message of any elements is taken apart into them.
-use Rattle.std.proofs.Common.{◌≡◌, ℕ, ◌/◌, ◌%◌, ◌≤◌, List, [], ◌∷◌, ◌++◌, map, length, None, sym, ap, ◌∙◌, div-add-mod', arith}
+use Rattle.std.proofs.Common.{◌≡◌, ℕ, ◌/◌, ◌%◌, ◌≤◌, List, [], ◌∷◌, ◌++◌, map, length, None, ap, ◌∙◌, div-add-mod', arith}
 use Rattle.std.specs.List.{flat_map}
 use Rattle.std.proofs.lemmas.List.{append_assoc, append-nil, map-append, length-append}
-use Rattle.layout.specs.Elements.{Part, walk, parts, fault_in, elements}
+use Rattle.layout.specs.Elements.{walk, parts, fault_in, elements}
 use Rattle.layout.proofs.Steps.{walk_end}
 use Rattle.writer.specs.Laws.{Item, item_octets, bare, message, WrittenIsRead}
 use Rattle.writer.proofs.Closing.{clear}
@@ -14,21 +14,12 @@ record Behind (h : List ℕ) (is : List Item) : Type 0 where
 
 -- elements behind octets that are whole
 behind : (h : List ℕ) (is : List Item) → 4 ≤ length h → fault_in (walk h 4) ≡ None → Behind h is
-behind h [] l w =
-    let e = append-nil h in
-    record { whole = ap (λ (m : List ℕ). fault_in (walk m 4)) e ∙ w; same = ap (λ (m : List ℕ). map bare (elements m)) e ∙ sym (append-nil _) }
+behind h [] l w = record { whole = grind (arith, append-nil); same = grind (arith, append-nil) }
 behind h (i ∷ is) l w =
     let a = append_assoc h (item_octets i) (flat_map item_octets is) in
     let g = grown h i.value i.id l w in
     let b = behind (h ++ item_octets i) is (omega (arith, length-append h (item_octets i))) g.whole in
-    record {
-      whole = ap (λ (m : List ℕ). fault_in (walk m 4)) (sym a) ∙ b.whole;
-      same =
-          ap (λ (m : List ℕ). map bare (elements m)) (sym a) ∙ b.same
-          ∙ ap (λ (ps : List Part). map bare ps ++ is) g.more
-          ∙ ap (λ (xs : List Item). xs ++ is) (map-append bare (elements h) _)
-          ∙ append_assoc (map bare (elements h)) (i ∷ []) is;
-    }
+    record { whole = grind arith; same = grind (arith, map-append, append_assoc) }
 
 pub written_is_read_lem : WrittenIsRead
 written_is_read_lem d t is k l =

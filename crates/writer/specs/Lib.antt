@@ -1,4 +1,5 @@
 pub mod Drafts
+pub mod Items
 pub mod Laws
 pub mod Octets
 pub mod Writing

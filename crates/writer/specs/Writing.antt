@@ -3,7 +3,7 @@ use Rattle.std.specs.Prelude.{◌≡◌, ℕ, ◌+◌, ◌<◌, ◌≤◌, true,
 use Rattle.writer.specs.declared.writing.OpenMessage.{OpenMessage}
 use Rattle.writer.specs.declared.writing.ClosedMessage.{ClosedMessage}
 use Rattle.layout.specs.Elements.{Part, elements, element_octets, size_octets}
-use Rattle.values.specs.Forms.{form_of, has_form}
+use Rattle.values.specs.Forms.{formed}
 use Rattle.writer.specs.Octets.{over}
 
 -- the memory of a message, and how many octets of it are the message's
@@ -37,7 +37,7 @@ placed at id v = record { id = id; place = at; start = at + (1 + length (size_oc
 -- an element is added: it is listed and has its form, its octets stand behind those before and end within 512,
 -- the rest of the memory stays, and it is the last element
 pub record Added (o : OpenMessage) (id : ℕ) (v : List ℕ) (p : OpenMessage) : Type 0 where
-  pub formed : has_form (form_of id) v ≡ true
+  pub formed : formed id v ≡ true
   pub fits : open_len o + length (element_octets id v) ≤ 512
   pub len : open_len p ≡ open_len o + length (element_octets id v)
   pub memory : open_memory p ≡ over (open_memory o) (open_len o) (element_octets id v)
@@ -46,7 +46,7 @@ pub record Added (o : OpenMessage) (id : ℕ) (v : List ℕ) (p : OpenMessage) :
 
 -- an element is refused: it is unlisted or missized, or would end past 512
 abbrev pub Unfit : OpenMessage → ℕ → List ℕ → Type 0
-Unfit o id v = (has_form (form_of id) v ≡ false) ⊎ (512 < open_len o + length (element_octets id v))
+Unfit o id v = (formed id v ≡ false) ⊎ (512 < open_len o + length (element_octets id v))
 
 pub record Unchanged (o p : OpenMessage) : Type 0 where
   pub len : open_len p ≡ open_len o

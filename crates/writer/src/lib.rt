@@ -1,6 +1,7 @@
 #![tactic(auto)]
 //! Messages that are written in lent memory.
 
+mod item;
 pub mod laws;
 mod octets;
 #[cfg(test)]

@@ -3,7 +3,8 @@
 ghost use Rattle.std.specs.Prelude.{IsTrue};
 ghost use Rattle.writer.specs.Drafts.{Sound, Sendable};
 
-/// Lent memory, and how many of its octets are written.
+/// Lent memory, and how many of its octets are written: there is no heap to hold them. A type cannot name a loan, so each function
+/// that passes the memory on says that the loan stays the same.
 #[derive(Drop)]
 struct Page<'a> {
     memory: &'a mut [u8],

@@ -1,9 +1,10 @@
-use Rattle.std.proofs.Common.{◌-◌, length, vec_items}
-use Rattle.text.proofs.Reading.{Read}
+use Rattle.std.proofs.Common.{◌≡◌, length, vec_items}
+use Rattle.text.specs.Hex.{octets_in, before}
 use Rattle.text.proofs.read_line.Given as goal
 
-abbrev pub invariant-loop-at : goal.invariant-loop-at
-invariant-loop-at l = Read l.line l.at (vec_items l.octets)
+-- what the line says is what is read, and then what the rest of it says
+abbrev pub invariant-loop-rest : goal.invariant-loop-rest
+invariant-loop-rest l = octets_in l.line ≡ before (vec_items l.octets) (octets_in l.rest)
 
-abbrev pub decreases-loop-at : goal.decreases-loop-at
-decreases-loop-at l = length l.line - l.at
+abbrev pub decreases-loop-rest : goal.decreases-loop-rest
+decreases-loop-rest l = length l.rest

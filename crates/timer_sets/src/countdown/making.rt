@@ -3,7 +3,7 @@ ghost use Rattle.timer_sets.specs.Sets.{of_countdown};
 ghost use Rattle.timers.specs.Timed.{off};
 
 use super::Countdown;
-use crate::by_timer::ByTimer;
+use timers::by_timer::ByTimer;
 
 impl Countdown {
     /// Timers that are off.

@@ -1,22 +1,20 @@
 ghost use Rattle.std.specs.Prelude.{◌≡◌, ◌-◌, true, if◌then◌else◌, ◌==◌};
-ghost use Rattle.timer_sets.specs.Moments.{AllAhead, after, awaited, is_ahead, ticks_to};
+ghost use Rattle.timer_sets.specs.Moments.{after, is_ahead, ticks_to};
 ghost use Rattle.timer_sets.specs.Sets.{clock_of, of_moments};
-ghost use Rattle.timers.specs.Timed.{ran_out, set_to, startable, ticked};
+ghost use Rattle.timers.specs.Limits.{checked, startable};
+ghost use Rattle.timers.specs.Timed.{ran_out, set_to, ticked};
 
 use super::DueMoments;
-use crate::by_timer::ByTimer;
-use timers::limit::can_start;
-use timers::timer::{Expired, Timer};
+use timers::by_timer::Expired;
+use timers::limit::{TicksOutOfRange, check_ticks};
+use timers::timer::Timer;
 use timers::timer_set::TimerSet;
 
 // The ticks left of a timer that is due at a moment, or is off.
 fn ticks_to(clock: u32, due: Option<u32>) -> u32
     ensures { result ≡ ticks_to clock due }
 {
-    match due {
-        Some(moment) => moment.wrapping_sub(clock),
-        None => 0,
-    }
+    due.map_or(0, |moment| moment.wrapping_sub(clock))
 }
 
 // Turns a timer off if it is due at the moment after this one, and says whether it was.
@@ -35,36 +33,17 @@ fn end_if_due(due: &mut Option<u32>, clock: u32) -> bool
     }
 }
 
-impl ByTimer<Option<u32>> {
-    // Turns off the timers that are due at the moment after this one, and says which they were.
-    fn end_all_due(&mut self, clock: u32) -> Expired
-        requires { AllAhead clock self.old }
-        ensures answer { result ≡ ran_out (awaited clock self.old) }
-        ensures leaves { awaited (after clock 1) self.new ≡ ticked (awaited clock self.old) }
-        ensures ahead { AllAhead (after clock 1) self.new }
-    {
-        Expired {
-            tu3904: end_if_due(&mut self.tu3904, clock),
-            tu3906: end_if_due(&mut self.tu3906, clock),
-            tu3907: end_if_due(&mut self.tu3907, clock),
-            tu3908: end_if_due(&mut self.tu3908, clock),
-        }
-    }
-}
-
 impl TimerSet for DueMoments {
     ghost timed = { of_moments };
 
-    fn start(&mut self, timer: Timer, ticks: u32) -> bool
-        ensures answer { result ≡ startable ticks }
-        ensures leaves { of_moments self.new ≡ (if result then set_to (of_moments self.old) timer ticks else of_moments self.old) }
+    fn start(&mut self, timer: Timer, ticks: u32) -> Result<(), TicksOutOfRange>
+        ensures answer { result ≡ checked ticks }
+        ensures leaves { of_moments self.new ≡ (if startable ticks then set_to (of_moments self.old) timer ticks else of_moments self.old) }
         ensures clock { clock_of self.new ≡ clock_of self.old }
     {
-        let starts = can_start(ticks);
-        if starts {
-            self.due.set(timer, Some(self.clock.wrapping_add(ticks)));
-        }
-        starts
+        check_ticks(ticks)?;
+        self.due.set(timer, Some(self.clock.wrapping_add(ticks)));
+        Ok(())
     }
 
     fn stop(&mut self, timer: Timer)
@@ -79,7 +58,7 @@ impl TimerSet for DueMoments {
         ensures leaves { of_moments self.new ≡ ticked (of_moments self.old) }
         ensures clock { clock_of self.new ≡ after (clock_of self.old) 1 }
     {
-        let expired = self.due.end_all_due(self.clock);
+        let expired = self.due.map_mut(|due| end_if_due(due, self.clock));
         self.clock = self.clock.wrapping_add(1);
         expired
     }

@@ -3,7 +3,7 @@ ghost use Rattle.timer_sets.specs.Sets.{clock_of, of_moments};
 ghost use Rattle.timers.specs.Timed.{off};
 
 use super::DueMoments;
-use crate::by_timer::ByTimer;
+use timers::by_timer::ByTimer;
 
 impl DueMoments {
     /// Timers that are off, at a moment of the clock.

@@ -1,19 +1,18 @@
-ghost use Rattle.std.specs.Prelude.{◌≡◌, ◌+◌, ◌<◌, ◌≤◌, [], ◌∷◌, length, None, MatchResult};
+ghost use Rattle.std.specs.Prelude.{◌≡◌, ◌<◌, ◌≤◌, [], ◌∷◌, length, None, MatchResult};
 ghost use Rattle.writer.specs.Drafts.{Held, headed, indicated};
-ghost use Rattle.layout.specs.Elements.{elements, element_octets, size_octets, rest};
+ghost use Rattle.layout.specs.Elements.{elements, rest};
 ghost use Rattle.layout.specs.Faults.{Refuses};
 ghost use Rattle.layout.specs.Layout.{apart_fault, counted};
-ghost use Rattle.values.specs.Forms.{form_of, has_form};
 ghost use Rattle.message.specs.Types.{discriminator_of};
-ghost use Rattle.writer.specs.Octets.{over};
+ghost use Rattle.writer.specs.Items.{octets_of, Puts};
 ghost use Rattle.writer.specs.Writing.{open_memory, open_len, closed_memory, closed_len, drafted, behind, message_of, Added, Unfit, Unchanged};
 
 use super::{ClosedMessage, OpenMessage, Owed, Page};
-use crate::octets::write_at;
+use crate::item::Item;
 use layout::elements::Elements;
 use layout::fault::Fault;
 use message::types::discriminator;
-use values::form::form_of;
+use values::bounds::{check_least, check_len};
 
 // Writes the discriminator and the type.
 fn write_head(memory: &mut [u8], type_octet: u8)
@@ -30,65 +29,21 @@ fn write_indicator(memory: &mut [u8], len: usize)
     ensures { memory.new ≡ indicated memory.old len }
 {
     let after = len - 2;
-    memory[0] = (after / 256) as u8;
-    memory[1] = (after % 256) as u8;
-}
-
-// Whether an element is listed and the value has its form.
-fn formed(id: u8, value: &[u8]) -> bool
-    ensures { result ≡ has_form (form_of id) value.now }
-{
-    form_of(id).admits(value)
-}
-
-// How many octets an element with a value of so many takes.
-fn element_len(len: usize) -> usize
-    requires { len ≤ 512 }
-    ensures { result ≡ 1 + (length (size_octets len) + len) }
-{
-    if len < 128 { len + 2 } else { len + 3 }
-}
-
-// Writes the octets of an element over those from `at` on.
-fn put_element(memory: &mut [u8], at: usize, id: u8, value: &[u8])
-    requires { (at + length (element_octets id value.now) ≤ length memory.old) × (length value.now ≤ 512) }
-    ensures { memory.new ≡ over memory.old at (element_octets id value.now) }
-{
-    let len = value.len();
-    if len < 128 {
-        write_at(memory, at, &[id, len as u8]);
-        write_at(memory, at + 2, value);
-    } else {
-        write_at(
-            memory,
-            at,
-            &[id, (128 + len / 256) as u8, (len % 256) as u8],
-        );
-        write_at(memory, at + 3, value);
-    }
+    memory[..2].copy_from_slice(&(after as u16).to_be_bytes());
 }
 
 impl Page<'_> {
     // Puts an element behind what is written, if it ends within 512 octets.
-    fn put(&mut self, id: u8, value: &[u8]) -> Result<(), Fault>
+    fn put(&mut self, item: Item<'_>) -> Result<(), Fault>
         requires { Held self.old.memory.now self.old.len }
         ensures name { self.new.memory.ghost_name ≡ self.old.memory.ghost_name }
-        ensures cases { MatchResult result
-            (λ _. (self.old.len + length (element_octets id value.now) ≤ 512)
-            × (self.new.len ≡ self.old.len + length (element_octets id value.now))
-            × (self.new.memory.now ≡ over self.old.memory.now self.old.len (element_octets id value.now)))
-            (λ f. Refuses 6 0 0 f
-            × (512 < self.old.len + length (element_octets id value.now))
-            × (self.new.len ≡ self.old.len)
-            × (self.new.memory.now ≡ self.old.memory.now)) }
+        ensures cases { Puts self.old.memory.now self.old.len (octets_of item.entry) result self.new.memory.now self.new.len }
     {
         let at = self.len;
-        let len = value.len();
-        if len > 512 || at + element_len(len) > 512 {
-            return Err(Fault::OutOfBounds);
-        }
-        put_element(self.memory, at, id, value);
-        self.len = at + element_len(len);
+        let end = at + item.len();
+        check_len(end, 0, 512)?;
+        item.write(self.memory, at);
+        self.len = end;
         Ok(())
     }
 }
@@ -104,15 +59,11 @@ impl Owed<false> {
 pub fn fits(len: usize) -> Result<(), Fault>
     ensures { MatchResult result (λ _. 512 ≤ len) (λ f. (len < 512) × Refuses 6 0 0 f) }
 {
-    if len < 512 {
-        Err(Fault::OutOfBounds)
-    } else {
-        Ok(())
-    }
+    check_least(len, 512)
 }
 
 impl<'a> OpenMessage<'a> {
-    /// Opens a message of a type in lent memory. `fits` says beforehand whether the memory is large enough.
+    /// Opens a message of a type, which may be any octet, in lent memory. `fits` says beforehand whether the memory is large enough.
     pub fn open(memory: &'a mut [u8], type_octet: u8) -> OpenMessage<'a>
         requires { 512 ≤ length memory.old }
         ensures name { result.page.memory.ghost_name ≡ memory.entry.ghost_name }
@@ -128,15 +79,13 @@ impl<'a> OpenMessage<'a> {
         }
     }
 
-    /// Adds an element behind those that stand there.
+    /// Adds an element behind those that stand there. Any octet and any value may be asked for.
     pub fn add(&mut self, id: u8, value: &[u8]) -> Result<(), Fault>
         ensures name { self.new.page.memory.ghost_name ≡ self.old.page.memory.ghost_name }
         ensures cases { MatchResult result (λ _. Added self.old id value.now self.new) (λ f. Refuses 6 0 0 f × Unfit self.old id value.now × Unchanged self.old self.new) }
     {
-        if !formed(id, value) {
-            return Err(Fault::OutOfBounds);
-        }
-        self.page.put(id, value)
+        let item = Item::new(id, value)?;
+        self.page.put(item)
     }
 
     /// Closes the message: its length indicator is written, and it can be sent. Taken apart, it gives the elements that were added,

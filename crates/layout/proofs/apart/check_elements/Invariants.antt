@@ -1,9 +1,6 @@
-use Rattle.std.proofs.Common.{◌≡◌, ◌-◌, length}
-use Rattle.layout.specs.Elements.{walk, fault_in}
+use Rattle.std.proofs.Common.{◌≡◌}
+use Rattle.layout.specs.Elements.{walk, ahead, fault_in}
 use Rattle.layout.proofs.apart.check_elements.Given as goal
 
-abbrev pub invariant-loop-element : goal.invariant-loop-element
-invariant-loop-element l = fault_in (walk l.message l.at) ≡ fault_in (walk l.message 4)
-
-abbrev pub decreases-loop-element : goal.decreases-loop-element
-decreases-loop-element l = length l.message - l.at
+abbrev pub invariant-loop-step : goal.invariant-loop-step
+invariant-loop-step l = fault_in (ahead l.step-iterator) ≡ fault_in (walk l.message 4)

@@ -1,10 +1,12 @@
+use Rattle.std.proofs.Common.{ap, ◌∙◌}
+use Rattle.std.specs.Option.{option_map}
 use Rattle.values.specs.Values.{point}
-use Rattle.tables.proofs.Meanings.{got_some, got_none}
+use Rattle.tables.specs.Held.{held}
+use Rattle.tables.specs.Keyed.{has_key}
+use Rattle.tables.specs.Kept.{entered}
+use Rattle.tables.proofs.Images.{image_found}
 use Rattle.tables.proofs.kept.KeptTable.get.Goals as goal
 
-pub returns-in-Some : goal.returns-in-Some
-returns-in-Some c =
-    got_some c.args.self.now.rows (point c.args.key.now) c.in-Some.place c.row_at.result c.in-Some.ensures.is c.row_at.ensures
-
-pub returns-in-None : goal.returns-in-None
-returns-in-None c = got_none c.args.self.now.rows (point c.args.key.now) c.in-None.ensures.is
+pub returns : goal.returns
+returns c =
+    ap (option_map entered) c.get.ensures ∙ image_found entered (has_key (λ k. k.key) (point c.args.key.now)) (held c.args.self.now.rows)

@@ -1,16 +1,14 @@
-use Rattle.tables.proofs.Meanings.{put_rows, put_there, put_distinct}
+use Rattle.tables.specs.Held.{held}
+use Rattle.tables.specs.Kept.{entered}
+use Rattle.tables.proofs.Meanings.{put_means}
 use Rattle.tables.proofs.kept.KeptTable.put.Goals as goal
-
-pub invariant_of-self : goal.invariant_of-self
-invariant_of-self c =
-    record {
-      within = c.put.ensures.len;
-      distinct = put_distinct c.args.self.now.rows c.put.new.self c.args.entry c.put.ensures.held c.args.self.now.distinct;
-    }
 
 pub returns : goal.returns
 returns c =
-    record {
-      rows = put_rows c.args.self.now.rows c.put.new.self c.args.entry c.put.ensures.held;
-      there = put_there c.args.self.now.rows c.put.new.self c.args.entry c.put.ensures.held;
-    }
+    let m = put_means entered (λ k. k.key) (held c.args.self.now.rows) (held c.put.new.self) c.args.entry c.put.ensures in
+    record { rows = m.0; there = m.1 }
+
+pub invariant_of-self : goal.invariant_of-self
+invariant_of-self c =
+    let m = put_means entered (λ k. k.key) (held c.args.self.now.rows) (held c.put.new.self) c.args.entry c.put.ensures in
+    record { distinct = m.2 c.args.self.now.distinct }

@@ -1,13 +1,15 @@
-use Rattle.std.proofs.Common.{arith, rules}
-use Rattle.std.proofs.lemmas.List.{get_or_default, get_or-take}
-use Rattle.tables.proofs.Edits.{moved_none, moved_more, moved_all}
+use Rattle.std.proofs.Common.{◌≡◌, ℕ, ◌+◌, ◌-◌, ◌<◌, ◌≤◌, List, length, take, drop, arith, rules}
+use Rattle.std.specs.List.{copy_within, remove}
+use Rattle.std.proofs.lemmas.List.{take-take, length-drop}
+use Rattle.std.proofs.lemmas.List.Edits.{take-paste}
+use Rattle.std.proofs.lemmas.Slice.{between_is}
 use Rattle.tables.proofs.rows.Rows.remove.Goals as goal
 
-pub loop-at-init : goal.loop-at-init
-loop-at-init g c = search (rules, moved_none)
-
-pub loop-at-preserved : goal.loop-at-preserved
-loop-at-preserved g c = search (rules, moved_more)
+closed_up : {X : Type 0} (xs : List X) (i n : ℕ) → i < n → n ≤ length xs → take (n - 1) (copy_within xs (i + 1) n i) ≡ remove (take n xs) i
+closed_up xs i n h l =
+    let size = length-drop (i + 1) xs in
+    let front = take-paste xs i (drop (i + 1) xs) (n - (i + 1)) in
+    grind (arith, take-take i n xs, between_is xs (i + 1) n)
 
 pub returns : goal.returns
-returns g c = record { held = moved_all _ _ _ _ c.loop-at.at (omega arith) (omega arith) (omega (arith, c.loop-at.auto.at-end (omega arith))) c.loop-at.invariant.1; len = omega arith; gone = search (rules, get_or-take, get_or_default) }
+returns g c = search (rules, closed_up)

@@ -1,5 +1,0 @@
-use Rattle.ring.proofs.Keeps.{kept_carrying}
-use Rattle.ring.proofs.lent.carrying.RingCarrier.places.Goals as goal
-
-pub returns : goal.returns
-returns c = record { answer = c.size.ensures; kept = kept_carrying _ _ _ _ _ _ c.args.self.now.sound }

@@ -1,0 +1,110 @@
+//! A carrier over places of memory.
+
+use crate::answering::Answering;
+use crate::memory::Memory;
+use crate::places::Places;
+use carrier::carrying::Carrier;
+use carrier::connection::Connection;
+use carrier::path::Path;
+use carrier::undone::Undone;
+use layout::fault::Fault;
+use values::address::Address;
+
+/// A carrier whose messages wait in places of memory.
+#[derive(Drop)]
+#[derive_where(Clone, Copy; M: Copy)]
+pub struct Line<M: Memory> {
+    places: Places<M>,
+    path: Path,
+    answering: Answering,
+}
+
+impl<M: Memory> Line<M> {
+    ghost use Rattle.std.specs.Prelude.{◌≡◌, ◌/◌, ◌≤◌, length};
+    ghost use Rattle.carrier.specs.Carried.{fresh};
+    ghost use Rattle.ring.specs.Answers.{answers_by};
+    ghost use Rattle.ring.specs.Meanings.{of_line};
+
+    // A carrier in which nothing stands and nothing waits, a place to each 514 octets.
+    pub(crate) fn over(memory: M, answering: Answering) -> Line<M>
+        requires { 514 ≤ length (M.octets memory) }
+        ensures memory { result.places.memory ≡ memory }
+        ensures means { of_line result ≡ fresh (length (M.octets memory) / 514) (answers_by answering) }
+    {
+        Line {
+            places: Places::new(memory),
+            path: Path::Down,
+            answering,
+        }
+    }
+
+    // The memory, as it is.
+    pub(crate) fn into_memory(self) -> M
+        ensures { result ≡ self.places.memory }
+    {
+        let Line {
+            places,
+            path: _,
+            answering: _,
+        } = self;
+        places.into_memory()
+    }
+}
+
+impl<M: Memory> Carrier for Line<M> {
+    ghost use Rattle.ring.specs.Meanings.{of_line};
+    ghost use Rattle.ring.specs.Keeps.{kept_carrying};
+
+    ghost carried = { of_line };
+
+    ghost kept = { λ l. kept_carrying _ _ _ _ _ _ l.places.sound };
+
+    fn tunnel(&self) -> Option<Address> {
+        self.path.gateway()
+    }
+
+    fn connection(&self) -> Option<Connection> {
+        self.path.connection()
+    }
+
+    fn waiting(&self) -> usize {
+        self.places.len()
+    }
+
+    fn places(&self) -> usize {
+        self.places.size()
+    }
+
+    fn answers(&self, address: &Address) -> bool {
+        self.answering.answers(address)
+    }
+
+    fn raise(&mut self, gateway: &Address) -> Result<(), Undone> {
+        let answers = self.answering.answers(gateway);
+        self.path.raise(gateway, answers)
+    }
+
+    fn open(&mut self, to: &Connection) -> Result<(), Undone> {
+        let answers = self.answering.answers(&to.controller);
+        self.path.open(to, answers)
+    }
+
+    fn send(&mut self, octets: &[u8]) -> Result<(), Undone> {
+        if !self.path.connected() {
+            return Err(Undone::NoConnection);
+        }
+        self.places.offer(octets)
+    }
+
+    fn close(&mut self) {
+        self.path.close();
+    }
+
+    fn drop_tunnel(&mut self) {
+        self.path.drop_tunnel();
+    }
+
+    fn take(&mut self, memory: &mut [u8]) -> Result<usize, Fault> {
+        self.places.take_into(memory)
+    }
+}

@@ -1,5 +1,0 @@
-use Rattle.ring.proofs.Keeps.{kept_carrying}
-use Rattle.slots.proofs.eight.carrying.SlotsCarrier.answers.Goals as goal
-
-pub returns : goal.returns
-returns c = record { answer = c.responds.ensures; kept = kept_carrying _ _ _ _ _ _ c.args.self.now.sound }

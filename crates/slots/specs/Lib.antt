@@ -1,2 +1,0 @@
-pub mod Meanings
-pub mod Slotted
