@@ -90,6 +90,7 @@ pub trait Carrier {
         ensures { carried self.new ≡ dropped (carried self.old) };
 
     /// Takes the first message that waits, to the front of memory of 512 octets or more, and says its length; 0 where none waits.
+    // 0, and no `Option`, where none waits is the rule of carriers.
     fn take(&mut self, memory: &mut [u8]) -> Result<usize, Fault>
         ensures { Takes (carried self.old) memory.old result (carried self.new) memory.new };
 

@@ -3,7 +3,7 @@
 use values::address::Address;
 
 /// Where a connection goes: a controller, and a port there.
-#[derive(Clone, Copy)]
+#[derive(Clone, Copy, PartialEq, Eq, Debug)]
 pub struct Connection {
     pub controller: Address,
     pub port: u16,

@@ -11,7 +11,7 @@ use crate::undone::Undone;
 use values::address::Address;
 
 /// How far the way to a controller stands: a connection needs a tunnel.
-#[derive(Clone, Copy)]
+#[derive(Clone, Copy, PartialEq, Eq, Debug)]
 pub enum Path {
     Down,
     Tunnel {

@@ -15,10 +15,7 @@ pub struct Refusal<'a> {
 
 impl fmt::Display for Refusal<'_> {
     fn fmt<W: fmt::Write>(&self, f: &mut fmt::Formatter<W>) -> fmt::Result {
-        let number = self.fault.number();
-        let place = self.fault.place();
-        let element = self.fault.element();
-        write!(f, "refused {number} at {place} element {element} (")?;
+        write!(f, "{} (", self.fault)?;
         let octets = self.octets;
         match self.fault {
             Fault::Size => write!(f, "{}, a message has 4 to 512", Counted(octets.len()))?,

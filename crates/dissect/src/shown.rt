@@ -13,6 +13,7 @@ use values::listed::Listed;
 /// What an element is, and what its value says.
 #[derive(Clone, Copy)]
 pub struct Meaning<'a> {
+    // An octet and no `Listed`: any octet may stand there.
     pub id: u8,
     pub value: &'a [u8],
 }

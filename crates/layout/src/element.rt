@@ -1,7 +1,7 @@
-//! An element of a message, where it stands.
+//! Elements of messages.
 
 /// An element of a message, where it stands.
-#[derive(Clone, Copy)]
+#[derive(Clone, Copy, PartialEq, Eq, Debug)]
 pub struct Element<'a> {
     /// The identifier, which may be any octet.
     pub id: u8,

@@ -55,6 +55,7 @@ impl Fault {
     }
 
     /// The place in the message that the refusal speaks of, or 0.
+    // No `Option`: an examiner's refusal has 0 where it speaks of no place.
     pub fn place(&self) -> usize
         ensures { result ≡ (refusal self.now).place }
     {
@@ -66,6 +67,7 @@ impl Fault {
     }
 
     /// The identifier of the element that the refusal speaks of, or 0.
+    // No `Option`: an examiner's refusal has 0 where it speaks of no element.
     pub fn element(&self) -> u8
         ensures { result ≡ (refusal self.now).element }
     {

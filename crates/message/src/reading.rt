@@ -50,6 +50,7 @@ fn needed<V: Value>(message: &[u8], listed: Listed) -> Result<V, Fault>
 fn used<V: Value>(message: &[u8], listed: Listed) -> Result<Option<V>, Fault>
     ensures { let id = identifier listed in Answers (used_fault (Some V.form) id (first message.now id)) (λ v. option_map (λ p. V.held (Some p)) (first message.now id) ≡ v) result }
 {
+    // A closure: `map(V::of)` at a type parameter is not covered.
     find(message, listed)
         .map(|element| V::of(element))
         .transpose()

@@ -20,7 +20,7 @@ pub enum HeardType {
 }
 
 /// The protocol discriminator of a type: 0 for GA-RC, 1 for GA-CSR.
-// An octet and no enum: each use wants the octet itself.
+// An octet and no enum: its one use writes the octet itself.
 pub fn discriminator(type_octet: u8) -> u8
     ensures { result ≡ discriminator_of type_octet }
 {

@@ -41,12 +41,11 @@ pub(crate) trait Value: Sized {
 fn octets<const N: usize>(element: Element<'_>) -> Result<[u8; N], Fault>
     ensures { Answers (form_fault (Some (Octets N N)) element.entry.id (seen element.entry)) (λ octets. octets ≡ element.entry.value.now) result }
 {
-    <[u8; N]>::try_from(element.value)
-        .ok()
-        .ok_or(malformed(element))
+    let refused = malformed(element);
+    <[u8; N]>::try_from(element.value).map_err(|_| refused)
 }
 
-// A number's size is no const parameter of its type, so each size has its impl.
+// A number's size is no const parameter of its type, so one impl for both would be no plainer.
 impl Value for u8 {
     ghost form = { Octets 1 1 };
 
@@ -94,8 +93,8 @@ pub(crate) fn ip_of(element: Element<'_>) -> Result<Address, Fault>
 pub(crate) fn name_of(element: Element<'_>) -> Result<Address, Fault>
     ensures { Answers (form_fault (Some (Octets 3 64)) element.entry.id (seen element.entry)) (λ a. coded a ≡ 0 ∷ element.entry.value.now) result }
 {
+    let refused = malformed(element);
     Name::try_from(element.value)
-        .ok()
         .map(Address::Named)
-        .ok_or(malformed(element))
+        .map_err(|_| refused)
 }

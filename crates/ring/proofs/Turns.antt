@@ -1,13 +1,13 @@
 -- Places counted round, and messages in places.
-use Rattle.std.proofs.Common.{◌≡◌, ℕ, zero, suc, ◌+◌, ◌*◌, ◌<◌, ◌≤◌, ◌⊎◌, List, map, length, take, drop, sym, refl, ap, ◌∙◌, inl, inr, add-zero, add_assoc, div-add-mod', arith}
+use Rattle.std.proofs.Common.{◌≡◌, ℕ, zero, suc, ◌+◌, ◌*◌, ◌<◌, ◌≤◌, ◌⊎◌, List, ◌++◌, map, length, take, drop, sym, refl, ap, ◌∙◌, inl, inr, add-zero, add_assoc, div-add-mod', arith}
+use borrow.Rule.Slice.PartMut.{put_mid}
 use Rattle.std.specs.List.{range_with_len}
-use Rattle.std.proofs.lemmas.List.{take_at, take-take, drop_at, drop-take, length-take-le}
+use Rattle.std.proofs.lemmas.List.{take_at, take-take, drop_at, drop-take, drop-drop, length-take-le}
 use Rattle.std.proofs.lemmas.Slice.{take-put_mid_below, drop-put_mid}
 use Rattle.std.proofs.lemmas.Bool.{cases_order}
 use Rattle.std.proofs.lemmas.Bool.Decides.{nat_tests}
 use Rattle.layout.specs.Layout.{counted}
-use Rattle.carrier.specs.Carried.{written}
-use Rattle.ring.specs.Memories.{overwritten}
+use Rattle.writer.specs.Octets.{over}
 use Rattle.ring.specs.Places.{place_from, size_in, message_in, around}
 
 -- n places: where h + i is, that no two of the first n are one, and one further on
@@ -29,20 +29,23 @@ places_apart w t ne =
     elim (cases_order w t) [ inl e ↦ absurd (ne e) | inr o ↦ elim o [ inl l ↦ inl (omega arith) | inr l ↦ inr (omega arith) ] ]
 
 -- what is written at the front of a place is read there
-pub size_written : (m p : List ℕ) → size_in (take 514 (written (counted m) p)) ≡ length m
-size_written m p = div-add-mod' (length m) 256
+pub size_written : (m z : List ℕ) → size_in (take 514 (counted m ++ z)) ≡ length m
+size_written m z = div-add-mod' (length m) 256
 
-pub message_written : (m p : List ℕ) → length m ≤ 512 → message_in (take 514 (written (counted m) p)) ≡ m
-message_written m p h = rw (size_written m p) (take-take (length m) 512 _ h ∙ take_at m _ (length m) refl)
+pub message_written : (m z : List ℕ) → length m ≤ 512 → message_in (take 514 (counted m ++ z)) ≡ m
+message_written m z h = rw (size_written m z) (take-take (length m) 512 _ h ∙ take_at m _ (length m) refl)
 
 -- the place that is written over, and another
-pub place_here : (a : ℕ) (o m : List ℕ) → a ≤ length m → place_from (overwritten a o m) a ≡ take 514 (written o (drop a m))
+pub place_here : (a : ℕ) (o m : List ℕ) → a ≤ length m → place_from (over m a o) a ≡ take 514 (o ++ drop (a + length o) m)
 place_here a o m h = ap (take 514) (drop_at (take a m) _ a (length-take-le a m h))
 
-pub place_there : (a b : ℕ) (o m : List ℕ) → a ≤ length m → length o ≤ 514 → ((b + 514 ≤ a) ⊎ (a + 514 ≤ b)) → place_from (overwritten a o m) b ≡ place_from m b
+over_put : (a : ℕ) (o m : List ℕ) → over m a o ≡ put_mid a (length o) m o
+over_put a o m = simp drop-drop refl
+
+pub place_there : (a b : ℕ) (o m : List ℕ) → a ≤ length m → length o ≤ 514 → ((b + 514 ≤ a) ⊎ (a + 514 ≤ b)) → place_from (over m a o) b ≡ place_from m b
 place_there a b o m h l (inl q) =
-    sym (drop-take b 514 (overwritten a o m)) ∙ ap (drop b) (take-put_mid_below a (length o) m o (b + 514) q h) ∙ drop-take b 514 m
-place_there a b o m h l (inr q) = ap (take 514) (drop-put_mid a (length o) m o b (omega arith) h refl)
+    sym (drop-take b 514 (over m a o)) ∙ ap (drop b) (ap (take (b + 514)) (over_put a o m) ∙ take-put_mid_below a (length o) m o (b + 514) q h) ∙ drop-take b 514 m
+place_there a b o m h l (inr q) = ap (take 514) (ap (drop b) (over_put a o m) ∙ drop-put_mid a (length o) m o b (omega arith) h refl)
 
 -- two lists made from functions of the index that agree
 pub map_counting_alike : {X : Type 0} (f g : ℕ → X) (a b n : ℕ) → ((i : ℕ) → i < n → f (a + i) ≡ g (b + i)) → map f (range_with_len a n) ≡ map g (range_with_len b n)

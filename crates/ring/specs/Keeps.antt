@@ -32,7 +32,7 @@ queue_sized m n h c s i l =
     let z : length (f (h + i)) ≡ size_in (nth_place m n (h + i)) = simp (length-take, length-drop) (omega arith) in
     rw e (omega arith, omega arith)
 
-pub kept_carrying : (p : Path) (m : List ℕ) (n h c : ℕ) (a : List ℕ → Bool) → Sound m n h c → Kept (carrying p (queue m n h c) n a)
-kept_carrying p m n h c a s =
+pub kept_carrying : (p : Path) (m : List ℕ) (n h c k : ℕ) (a : List ℕ → Bool) → Sound m n h c → n ≡ k → Kept (carrying p (queue m n h c) k a)
+kept_carrying p m n h c k a s e =
     let l = length-queue m n h c in
-    record { tunnelled = tunnelled p; some_place = s.0; in_place = omega arith; sized = queue_sized m n h c s }
+    record { tunnelled = tunnelled p; some_place = omega arith; in_place = omega arith; sized = queue_sized m n h c s }

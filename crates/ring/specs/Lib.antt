@@ -1,7 +1,6 @@
 pub mod Answers
 pub mod Keeps
 pub mod Meanings
-pub mod Memories
 pub mod Places
 pub mod Queues
 pub mod Waiting

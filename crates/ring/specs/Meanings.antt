@@ -1,19 +1,24 @@
 -- What a carrier over places of memory means.
-use Rattle.std.specs.Prelude.{List, ℕ}
+use Rattle.std.specs.Prelude.{Bool, List, ℕ, ◌/◌}
 use Rattle.std.specs.Borrow.{MutBor}
+use Rattle.tables.specs.Addresses.{is_listed}
 use Rattle.carrier.specs.Carried.{Carried}
 use Rattle.carrier.specs.Links.{carrying}
-use Rattle.ring.specs.Answers.{answers_by}
+use Rattle.ring.specs.Answers.{is_unlisted}
 use Rattle.ring.specs.Waiting.{queued}
+use Rattle.ring.specs.declared.answering.AllBut.{AllBut}
+use Rattle.ring.specs.declared.answering.Only.{Only}
 use Rattle.ring.specs.declared.memory.Memory.{Ghosts}
 use Rattle.ring.specs.declared.line.Line.{Line}
 
-abbrev pub of_line : {M : Type 0} {g : Ghosts M} → Line M g → Carried
-of_line l = carrying l.path (queued l.places) l.places.places (answers_by l.answering)
+-- a place to each 514 octets of its memory; who answers is read from what it holds
+abbrev pub of_line : {M A : Type 0} {g : Ghosts M} → (A → List ℕ → Bool) → Line M A g → Carried
+of_line {M} {A} {g} answers l = carrying l.path (queued l.places) (g.size l.places.memory / 514) (answers l.answering)
 
--- over lent memory, and over eight slots of its own
-abbrev pub of_ring : {g : Ghosts (MutBor (List ℕ))} → Line (MutBor (List ℕ)) g → Carried
-of_ring r = of_line r
+-- over lent memory: the addresses on its list answer, no other does
+abbrev pub of_ring : {g : Ghosts (MutBor (List ℕ))} → Line (MutBor (List ℕ)) Only g → Carried
+of_ring r = of_line (λ o. is_listed o.0) r
 
-abbrev pub of_slots : {g : Ghosts (List ℕ)} → Line (List ℕ) g → Carried
-of_slots s = of_line s
+-- over slots of its own: the addresses on its list do not answer, any other does
+abbrev pub of_slots : {g : Ghosts (List ℕ)} → Line (List ℕ) AllBut g → Carried
+of_slots s = of_line (λ a. is_unlisted a.0) s

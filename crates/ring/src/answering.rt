@@ -1,29 +1,45 @@
 //! Which addresses answer.
 
-ghost use Rattle.std.specs.Prelude.{◌≡◌};
+ghost use Rattle.std.specs.Prelude.{◌≡◌, Bool, List, ℕ};
 ghost use Rattle.values.specs.Values.{coded};
-ghost use Rattle.ring.specs.Answers.{answers_by};
 
 use tables::addresses::AddressList;
 use values::address::Address;
 
-/// Which addresses answer.
-#[derive(Clone, Copy)]
-pub enum Answering {
-    /// Those on a list, and no other.
-    Only(AddressList),
-    /// Any but those on a list.
-    AllBut(AddressList),
+/// What says of each address whether it answers.
+pub trait Answering {
+    /// Whether an address answers, by its code.
+    ghost answers: { Self → List ℕ → Bool };
+
+    /// Whether an address answers.
+    fn answers(&self, address: &Address) -> bool
+        ensures { result ≡ answers self.now (coded address.now) };
 }
 
-impl Answering {
-    /// Whether an address answers.
-    pub fn answers(&self, address: &Address) -> bool
-        ensures { result ≡ answers_by self.now (coded address.now) }
-    {
-        match self {
-            Answering::Only(list) => list.contains(address),
-            Answering::AllBut(list) => !list.contains(address),
-        }
+/// The addresses on a list answer, and no other.
+#[derive(Clone, Copy)]
+pub struct Only(pub AddressList);
+
+impl Answering for Only {
+    ghost use Rattle.tables.specs.Addresses.{is_listed};
+
+    ghost answers = { λ o. is_listed o.0 };
+
+    fn answers(&self, address: &Address) -> bool {
+        self.0.contains(address)
+    }
+}
+
+/// Any address answers but those on a list.
+#[derive(Clone, Copy)]
+pub struct AllBut(pub AddressList);
+
+impl Answering for AllBut {
+    ghost use Rattle.ring.specs.Answers.{is_unlisted};
+
+    ghost answers = { λ a. is_unlisted a.0 };
+
+    fn answers(&self, address: &Address) -> bool {
+        !self.0.contains(address)
     }
 }

@@ -6,7 +6,7 @@ ghost use Rattle.tables.specs.Addresses.{is_listed};
 ghost use Rattle.carrier.specs.Carried.{fresh};
 ghost use Rattle.ring.specs.Meanings.{of_ring};
 
-use crate::answering::Answering;
+use crate::answering::Only;
 use crate::line::Line;
 use crate::places::PLACE;
 use layout::fault::Fault;
@@ -14,7 +14,7 @@ use tables::addresses::AddressList;
 use values::bounds::check_least;
 
 /// A carrier in memory that is lent to it, a place to each 514 octets.
-pub type Ring<'a> = Line<&'a mut [u8]>;
+pub type Ring<'a> = Line<&'a mut [u8], Only>;
 
 /// Whether memory of `len` octets has a place, so that a ring can be made in it.
 pub fn fits(len: usize) -> Result<(), Fault>
@@ -23,7 +23,7 @@ pub fn fits(len: usize) -> Result<(), Fault>
     check_least(len, PLACE)
 }
 
-impl<'a> Line<&'a mut [u8]> {
+impl<'a> Line<&'a mut [u8], Only> {
     /// A ring in which nothing stands and nothing waits. The addresses on the list answer, no other does. `fits` says beforehand
     /// whether the memory is large enough.
     pub fn new(memory: &'a mut [u8], answering: AddressList) -> Ring<'a>
@@ -32,7 +32,7 @@ impl<'a> Line<&'a mut [u8]> {
         ensures memory { result.places.memory.now ≡ memory.old }
         ensures means { of_ring result ≡ fresh (length memory.old / 514) (is_listed answering) }
     {
-        Line::over(memory, Answering::Only(answering))
+        Line::over(memory, Only(answering))
     }
 
     /// Gives the memory back as it is.

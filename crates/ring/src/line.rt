@@ -12,24 +12,24 @@ use values::address::Address;
 
 /// A carrier whose messages wait in places of memory.
 #[derive(Drop)]
-#[derive_where(Clone, Copy; M: Copy)]
-pub struct Line<M: Memory> {
+#[derive_where(Clone, Copy; M: Copy, A: Copy)]
+pub struct Line<M: Memory, A: Answering> {
     places: Places<M>,
     path: Path,
-    answering: Answering,
+    answering: A,
 }
 
-impl<M: Memory> Line<M> {
-    ghost use Rattle.std.specs.Prelude.{◌≡◌, ◌/◌, ◌≤◌, length};
+impl<M: Memory, A: Answering + Drop> Line<M, A> {
+    ghost use Rattle.std.specs.Prelude.{◌≡◌, ◌/◌, ◌≤◌};
     ghost use Rattle.carrier.specs.Carried.{fresh};
-    ghost use Rattle.ring.specs.Answers.{answers_by};
     ghost use Rattle.ring.specs.Meanings.{of_line};
 
     // A carrier in which nothing stands and nothing waits, a place to each 514 octets.
-    pub(crate) fn over(memory: M, answering: Answering) -> Line<M>
-        requires { 514 ≤ length (M.octets memory) }
+    // What `Ring::new` asks of its memory is handed down to here.
+    pub(crate) fn over(memory: M, answering: A) -> Line<M, A>
+        requires { 514 ≤ M.size memory }
         ensures memory { result.places.memory ≡ memory }
-        ensures means { of_line result ≡ fresh (length (M.octets memory) / 514) (answers_by answering) }
+        ensures means { of_line A.answers result ≡ fresh (M.size memory / 514) (A.answers answering) }
     {
         Line {
             places: Places::new(memory),
@@ -51,13 +51,13 @@ impl<M: Memory> Line<M> {
     }
 }
 
-impl<M: Memory> Carrier for Line<M> {
+impl<M: Memory, A: Answering> Carrier for Line<M, A> {
     ghost use Rattle.ring.specs.Meanings.{of_line};
     ghost use Rattle.ring.specs.Keeps.{kept_carrying};
 
-    ghost carried = { of_line };
+    ghost carried = { of_line A.answers };
 
-    ghost kept = { λ l. kept_carrying _ _ _ _ _ _ l.places.sound };
+    ghost kept = { λ l. kept_carrying _ _ _ _ _ _ _ l.places.sound l.places.sized };
 
     fn tunnel(&self) -> Option<Address> {
         self.path.gateway()

@@ -4,7 +4,7 @@ ghost use Rattle.std.specs.Prelude.{◌≡◌, ◌+◌, ◌*◌, ◌^◌, ◌<�
 ghost use Rattle.values.specs.Bounds.{Between};
 ghost use Rattle.layout.specs.Layout.{counted};
 ghost use Rattle.carrier.specs.Carried.{sendable, why_not_put, written};
-ghost use Rattle.ring.specs.Memories.{overwritten};
+ghost use Rattle.writer.specs.Octets.{over};
 ghost use Rattle.ring.specs.Places.{Filled, message_in, around, Sound};
 
 use crate::memory::Memory;
@@ -23,8 +23,10 @@ fn store<M: Memory>(memory: &mut M, at: usize, message: &[u8])
     requires addressable { at + 514 < 2 ^ 64 }
     requires size { Between 4 512 (length message.now) }
     ensures name { M.name memory.new ≡ M.name memory.old }
-    ensures octets { M.octets memory.new ≡ overwritten at (counted message.now) (M.octets memory.old) }
+    ensures size { M.size memory.new ≡ M.size memory.old }
+    ensures octets { M.octets memory.new ≡ over (M.octets memory.old) at (counted message.now) }
 {
+    // `as`: `try_from` would answer a `Result` that cannot fail.
     let len = message.len() as u16;
     memory.write(at, &len.to_be_bytes());
     memory.write(at + 2, message);
@@ -38,7 +40,7 @@ fn load(place: &[u8], memory: &mut [u8]) -> usize
     ensures answer { result ≡ length (message_in place.now) }
     ensures memory { memory.new ≡ written (message_in place.now) memory.old }
 {
-    let len = u16::from_be_bytes([place[0], place[1]]) as usize;
+    let len = usize::from(u16::from_be_bytes([place[0], place[1]]));
     memory[..len].copy_from_slice(&place[2..2 + len]);
     len
 }
@@ -69,7 +71,7 @@ fn admit(waiting: usize, places: usize, octets: &[u8]) -> Result<(), Undone>
 }
 
 /// Places in memory. Of `places`, `count` hold messages that wait, the first of them at `head`.
-// Messages and their number stand in fixed memory: there is no heap.
+// A queue in the memory that there is: there is no heap.
 #[derive(Drop)]
 pub struct Places<M: Memory> {
     memory: M,
@@ -77,9 +79,11 @@ pub struct Places<M: Memory> {
     head: usize,
     count: usize,
     ghost sound: { Sound (M.octets memory) places head count },
+    ghost sized: { places ≡ M.size memory / 514 },
     ghost addressable: { 514 * places < 2 ^ 64 },
 }
 
+// By hand: a derive is refused on a generic struct with a type parameter and a ghost field.
 impl<M: Memory + Copy> Copy for Places<M> {}
 
 impl<M: Memory + Copy> Clone for Places<M> {
@@ -98,10 +102,10 @@ impl<M: Memory> Places<M> {
     ghost use Rattle.ring.specs.Waiting.{queued};
 
     /// Places in memory, a place to each 514 octets, in which nothing waits.
+    // What `Ring::new` asks of its memory is handed down to here.
     pub fn new(memory: M) -> Places<M>
-        requires { 514 ≤ length (M.octets memory) }
+        requires { 514 ≤ M.size memory }
         ensures memory { result.memory ≡ memory }
-        ensures places { result.places ≡ length (M.octets memory) / 514 }
         ensures waiting { queued result ≡ [] }
     {
         let places = memory.octets().len() / PLACE;
@@ -122,7 +126,7 @@ impl<M: Memory> Places<M> {
 
     /// How many messages may wait at once.
     pub fn size(&self) -> usize
-        ensures { result ≡ self.now.places }
+        ensures { result ≡ M.size self.now.memory / 514 }
     {
         self.places
     }
@@ -130,8 +134,8 @@ impl<M: Memory> Places<M> {
     /// Puts octets behind those that wait, if they are 4 to 512 and a place is free.
     pub fn offer(&mut self, octets: &[u8]) -> Result<(), Undone>
         ensures name { M.name self.new.memory ≡ M.name self.old.memory }
-        ensures places { self.new.places ≡ self.old.places }
-        ensures puts { Puts (queued self.old) self.old.places octets.now result (queued self.new) }
+        ensures size { M.size self.new.memory ≡ M.size self.old.memory }
+        ensures puts { Puts (queued self.old) (M.size self.old.memory / 514) octets.now result (queued self.new) }
     {
         admit(self.len(), self.places, octets)?;
         let at = PLACE * wrapped(self.head + self.count, self.places);
@@ -143,7 +147,6 @@ impl<M: Memory> Places<M> {
     /// Takes the first message out, to the front of memory of 512 octets or more, and says its length; 0 where none waits.
     pub fn take_into(&mut self, memory: &mut [u8]) -> Result<usize, Fault>
         ensures memory { self.new.memory ≡ self.old.memory }
-        ensures places { self.new.places ≡ self.old.places }
         ensures takes { TakesFrom (queued self.old) memory.old result (queued self.new) memory.new }
     {
         check_least(memory.len(), 512)?;

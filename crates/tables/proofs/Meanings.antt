@@ -14,6 +14,7 @@ add_means f old new x e =
     (rows, rw rows (there_added (has_key itself (f x)) (f x) (map f old) ((bytes_eq-Decides (f x) _).1 refl)), (λ a. rw rows (apart_add (f x) (map f old) a)))
 
 module _ {X : Type 0} (code : X → List ℕ) where
+  -- these three are named in docs/PORT.md
   -- none of the first `n` rows has the key
   abbrev pub Misses : List ℕ → List X → ℕ → Type 0
   Misses k xs n = (j : ℕ) → j < n → (d : X) → code (get_or xs j d) ≢ k

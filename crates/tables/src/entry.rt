@@ -7,7 +7,7 @@ use values::access_point::AccessPoint;
 use values::address::Address;
 
 /// Where a station was registered when it was last at an access point.
-#[derive(Clone, Copy)]
+#[derive(Clone, Copy, PartialEq, Eq, Debug)]
 pub struct Entry {
     pub key: AccessPoint,
     pub gateway: Address,

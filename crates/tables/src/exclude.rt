@@ -44,6 +44,7 @@ impl ExcludeList {
     }
 
     /// The access points, the oldest first.
+    // The kept table has a call like it: a shared one would be no plainer, since what each promises differs.
     pub fn rows(&self) -> &[AccessPoint]
         ensures is { map point_code result.now ≡ excluded_rows self.now }
         ensures most { length result.now ≤ 16 }

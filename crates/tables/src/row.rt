@@ -29,6 +29,7 @@ pub trait Row {
         ensures { Self.Key.Key.code result.now ≡ coded self.now };
 }
 
+// One for each kind of key: its octets, and why `==` decides them, are its own, and a shared one would be no plainer.
 impl Key for AccessPoint {
     ghost code = { point };
 

@@ -14,7 +14,7 @@ pub(crate) struct Rows<R, const N: usize> {
     ghost within: { len ≤ N },
 }
 
-// No derive copies a generic struct that has a ghost field.
+// No derive copies a struct with a type parameter that has a ghost field.
 impl<R: Copy, const N: usize> Copy for Rows<R, N> {}
 
 impl<R: Copy, const N: usize> Clone for Rows<R, N> {
@@ -85,7 +85,7 @@ impl<R: Row + Copy, const N: usize> Rows<R, N> {
         self.find(key).map(|place| rows[place])
     }
 
-    /// Writes a row over the one at a place.
+    /// Writes a row over the one at a place, which is lent for it.
     fn rewrite(&mut self, place: usize, row: R)
         requires { place < length (held self.old) }
         ensures { held self.new ≡ slice_set (held self.old) place row }

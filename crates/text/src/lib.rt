@@ -41,6 +41,7 @@ impl<T: Drop> From<AllocFailed<T>> for LineError {
 }
 
 /// The value of a hexadecimal digit of either case.
+// `char::to_digit` is no plainer: it takes a char and answers a u32.
 pub fn digit(b: u8) -> Option<u8>
     ensures { result ≡ digit_value b }
 {

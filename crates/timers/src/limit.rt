@@ -29,7 +29,7 @@ impl fmt::Display for TicksOutOfRange {
 
 impl Error for TicksOutOfRange {}
 
-/// Whether a timer can be started with so many ticks.
+/// Refuses ticks that a timer cannot be started with.
 pub fn check_ticks(ticks: u32) -> Result<(), TicksOutOfRange>
     ensures { result ≡ checked ticks }
 {

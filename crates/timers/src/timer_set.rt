@@ -27,6 +27,7 @@ pub trait TimerSet {
         ensures leaves { timed self.new ≡ ticked (timed self.old) };
 
     /// The ticks that a timer has left, 0 where it is off.
+    // No `Option`: the meaning `Timed` has 0 for a timer that is off.
     fn left(&self, timer: Timer) -> u32
         ensures answer { result ≡ left_of (timed self.now) timer }
         ensures kept { Kept (timed self.now) };

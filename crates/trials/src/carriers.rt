@@ -1,5 +1,7 @@
 //! One run of acts over every carrier.
 
+ghost use Rattle.std.specs.Prelude.{◌≡◌};
+
 use carrier::acts::connect;
 use carrier::carrying::Carrier;
 use carrier::connection::Connection;
@@ -18,6 +20,13 @@ const CONNECTION: Connection = Connection {
     controller: CONTROLLER,
     port: 14001,
 };
+
+// How many places slots have, whoever made them: the type says it.
+fn places_of(slots: &Slots) -> usize
+    ensures { result ≡ 8 }
+{
+    slots.places()
+}
 
 // What a run showed.
 #[derive(Clone, Copy, PartialEq, Eq, Debug)]
@@ -97,6 +106,7 @@ fn a_ring_and_slots_of_eight_do_the_same(rt: HostRuntime) -> Result<(), Fail> {
         AddressList::try_from([CONTROLLER, GATEWAY].as_slice())?,
     );
     let mut slots = Slots::new(AddressList::try_from([].as_slice())?);
+    assert_eq!(rt; places_of(&slots), 8);
     assert_eq!(rt; drive(&mut ring)?, OF_EIGHT);
     assert_eq!(rt; drive(&mut slots)?, OF_EIGHT);
     let mut lent = &mut slots;

@@ -10,10 +10,6 @@ use Rattle.values.specs.Octets.{octets_of}
 abbrev pub point : AccessPoint → List ℕ
 point p = p.octets
 
--- the octets of a mobile identity
-abbrev pub identified : Octets 1 9 → List ℕ
-identified i = octets_of i
-
 -- the octets of a name
 abbrev pub spelled : Octets 3 64 → List ℕ
 spelled n = octets_of n

@@ -1,6 +1,6 @@
 //! A number of octets within bounds.
 
-ghost use Rattle.std.specs.Prelude.{◌≡◌, ◌≤◌, length, take};
+ghost use Rattle.std.specs.Prelude.{◌≤◌};
 
 use crate::bounds::check_len;
 use layout::fault::Fault;
@@ -12,14 +12,6 @@ pub struct Octets<const LEAST: usize, const MOST: usize> {
     len: usize,
     ghost least: { LEAST ≤ len },
     ghost most: { len ≤ MOST },
-}
-
-// Writes octets over the first ones of others. A part of `own` itself is not lent where its size is a parameter.
-fn write_first(to: &mut [u8], from: &[u8])
-    requires { length from.now ≤ length to.old }
-    ensures { take (length from.now) to.new ≡ from.now }
-{
-    to[..from.len()].copy_from_slice(from);
 }
 
 impl<const LEAST: usize, const MOST: usize> TryFrom<&[u8]> for Octets<LEAST, MOST> {
@@ -36,7 +28,7 @@ impl<const LEAST: usize, const MOST: usize> TryFrom<&[u8]> for Octets<LEAST, MOS
         let len = octets.len();
         check_len(len, LEAST, MOST)?;
         let mut own = [0; MOST];
-        write_first(&mut own, octets);
+        own[..len].copy_from_slice(octets);
         Ok(Octets { octets: own, len })
     }
 }
@@ -49,8 +41,7 @@ impl<const LEAST: usize, const MOST: usize> Octets<LEAST, MOST> {
     pub fn octets(&self) -> &[u8]
         ensures { result.now ≡ octets_of self.now }
     {
-        let all = &self.octets[..];
-        &all[..self.len]
+        &self.octets[..self.len]
     }
 }
 

@@ -1,5 +1,5 @@
 mod Closing
 mod Drafting
 mod Grown
-mod Over
+pub mod Over
 mod Readback

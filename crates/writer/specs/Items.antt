@@ -3,12 +3,13 @@ use Rattle.std.specs.Prelude.{◌≡◌, ℕ, ◌+◌, ◌<◌, ◌≤◌, List,
 use Rattle.layout.specs.declared.fault.Fault.{Fault}
 use Rattle.layout.specs.Elements.{element_octets}
 use Rattle.layout.specs.Faults.{Refuses}
+use Rattle.values.specs.Forms.{identifier}
 use Rattle.writer.specs.declared.item.Item.{Item}
 use Rattle.writer.specs.Octets.{over}
 
 -- the octets of an element
 abbrev pub octets_of : Item → List ℕ
-octets_of i = element_octets i.id i.value.now
+octets_of i = element_octets (identifier i.element) i.value.now
 
 -- what putting octets xs behind the n that are written leaves of the memory m and of n: they end within 512, or are refused
 abbrev pub Puts : {X : Type 0} → List ℕ → ℕ → List ℕ → Result X Fault → List ℕ → ℕ → Type 0

@@ -1,18 +1,18 @@
 //! An element that is to be written.
 
 ghost use Rattle.std.specs.Prelude.{IsTrue};
-ghost use Rattle.values.specs.Forms.{formed};
+ghost use Rattle.values.specs.Forms.{formed, identifier};
 
 use crate::octets::write_at;
 use layout::fault::Fault;
-use values::form::form_of;
+use values::listed::Listed;
 
 /// An element that is listed, with a value of its form.
 #[derive(Clone, Copy)]
 pub(crate) struct Item<'a> {
-    id: u8,
+    element: Listed,
     value: &'a [u8],
-    ghost formed: { IsTrue (formed id value.now) },
+    ghost formed: { IsTrue (formed (identifier element) value.now) },
 }
 
 impl<'a> Item<'a> {
@@ -27,8 +27,8 @@ impl<'a> Item<'a> {
     pub(crate) fn new(id: u8, value: &'a [u8]) -> Result<Item<'a>, Fault>
         ensures { MatchResult result (λ i. (formed id value.now ≡ true) × (octets_of i ≡ element_octets id value.now)) (λ f. (formed id value.now ≡ false) × Refuses 6 0 0 f) }
     {
-        match form_of(id) {
-            Some(form) if form.admits(value) => Ok(Item { id, value }),
+        match Listed::try_from(id) {
+            Ok(element) if element.form().admits(value) => Ok(Item { element, value }),
             _ => Err(Fault::OutOfBounds),
         }
     }
@@ -48,9 +48,10 @@ impl<'a> Item<'a> {
         ensures { memory.new ≡ over memory.old at (octets_of self.now) }
     {
         let len = self.value.len();
-        let [high, low] = (len as u16).to_be_bytes();
-        let short = [self.id, low];
-        let long = [self.id, 128 + high, low];
+        let [.., high, low] = len.to_be_bytes();
+        let id = u8::from(self.element);
+        let short = [id, low];
+        let long = [id, 128 + high, low];
         let head = if len < 128 { &short[..] } else { &long[..] };
         write_at(memory, at, head);
         write_at(memory, at + head.len(), self.value);

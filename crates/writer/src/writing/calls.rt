@@ -14,7 +14,7 @@ use layout::fault::Fault;
 use message::types::discriminator;
 use values::bounds::{check_least, check_len};
 
-// Writes the discriminator and the type.
+// Writes the discriminator and the type, which may be any octet.
 fn write_head(memory: &mut [u8], type_octet: u8)
     requires { 4 ≤ length memory.old }
     ensures { memory.new ≡ headed memory.old type_octet }
@@ -29,7 +29,8 @@ fn write_indicator(memory: &mut [u8], len: usize)
     ensures { memory.new ≡ indicated memory.old len }
 {
     let after = len - 2;
-    memory[..2].copy_from_slice(&(after as u16).to_be_bytes());
+    let [.., high, low] = after.to_be_bytes();
+    memory[..2].copy_from_slice(&[high, low]);
 }
 
 impl Page<'_> {

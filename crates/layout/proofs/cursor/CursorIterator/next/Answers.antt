@@ -9,7 +9,7 @@ returns-then-self-clause-steps c = search (rules, walk_end)
 pub returns-clause-steps : goal.returns-clause-steps
 returns-clause-steps c =
     step_on c.args.self.now.message.now c.args.self.now.at c.match-step.self c.element-step.result (omega arith) c.element-step.ensures
-    (elim c.match-step.branch [ in-Ok w ↦ rw w.in-Ok.is w.self-is | in-Err w ↦ rw w.in-Err.is w.self-is ])
+    (elim c.match-step.branch [ in-Ok w ↦ rw w.in-Ok.is (omega (arith, w.self-is)) | in-Err w ↦ rw w.in-Err.is w.self-is ])
 
 pub returns-clause-goes : goal.returns-clause-goes
 returns-clause-goes c = let h = returns-clause-steps c in record { on = λ _. (tt, tt, fewer_left _ _ _ h); keeps = tt; rests = λ _. tt }

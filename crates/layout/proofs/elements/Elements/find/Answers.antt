@@ -6,5 +6,5 @@ use Rattle.layout.proofs.elements.Elements.find.Goals as goal
 
 pub returns-clause-finds : goal.returns-clause-finds
 returns-clause-finds c =
-    find_from_yields_List (λ p. p.id == c.args.id) c.find.new.self _ _ c.find.ensures.ran
-    (YieldsList-from_first seen rest _ refl) (λ x b q k. search (rules, tests))
+    let found = find_from_yields_List (λ p. p.id == c.args.id) c.find.new.self _ _ c.find.ensures.ran (YieldsList-from_first seen rest _ refl) (λ x b q k. search (rules, tests)) in
+    search rules
