@@ -26,9 +26,8 @@ fn store<M: Memory>(memory: &mut M, at: usize, message: &[u8])
     ensures size { M.size memory.new ≡ M.size memory.old }
     ensures octets { M.octets memory.new ≡ over (M.octets memory.old) at (counted message.now) }
 {
-    // `as`: `try_from` would answer a `Result` that cannot fail.
-    let len = message.len() as u16;
-    memory.write(at, &len.to_be_bytes());
+    let [.., high, low] = message.len().to_be_bytes();
+    memory.write(at, &[high, low]);
     memory.write(at + 2, message);
 }
 
