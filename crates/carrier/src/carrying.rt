@@ -21,30 +21,35 @@ pub trait Carrier {
 
     /// The gateway of the tunnel.
     fn tunnel(&self) -> Option<Address>
-        ensures { option_map coded result ≡ (carried self.now).tunnel };
+        ensures answer { option_map coded result ≡ (carried self.now).tunnel }
+        ensures kept { Kept (carried self.now) };
 
     /// The connection.
     fn connection(&self) -> Option<Connection>
-        ensures { option_map linked result ≡ (carried self.now).connection };
+        ensures answer { option_map linked result ≡ (carried self.now).connection }
+        ensures kept { Kept (carried self.now) };
 
     /// How many messages wait.
     fn waiting(&self) -> usize
-        ensures { result ≡ length (carried self.now).waiting };
+        ensures answer { result ≡ length (carried self.now).waiting }
+        ensures kept { Kept (carried self.now) };
 
     /// How many messages may wait at once.
     fn places(&self) -> usize
-        ensures { result ≡ (carried self.now).places };
+        ensures answer { result ≡ (carried self.now).places }
+        ensures kept { Kept (carried self.now) };
 
     /// Whether an address answers.
     fn answers(&self, address: &Address) -> bool
-        ensures { result ≡ (carried self.now).answers (coded address.now) };
+        ensures answer { result ≡ (carried self.now).answers (coded address.now) }
+        ensures kept { Kept (carried self.now) };
 
     /// Whether the tunnel stands, and to this gateway.
     fn tunnelled(&self, gateway: &Address) -> bool
         ensures answer { result ≡ stands (carried self.now) (coded gateway.now) }
         ensures exact { result ≡ true → (carried self.now).tunnel ≡ Some (coded gateway.now) }
     {
-        self.tunnel() == Some(*gateway)
+        self.tunnel().is_some_and(|standing| standing == *gateway)
     }
 
     /// Whether every place is taken.
@@ -94,6 +99,6 @@ pub trait Carrier {
     fn take(&mut self, memory: &mut [u8]) -> Result<usize, Fault>
         ensures { Takes (carried self.old) memory.old result (carried self.new) memory.new };
 
-    /// What holds of every carrier.
+    /// What holds of every carrier, also before any question. A `&dyn Carrier` has no laws: there the questions say it.
     ghost kept: { (c : Self) → Kept (carried c) };
 }

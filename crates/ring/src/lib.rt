@@ -6,4 +6,4 @@ pub mod eight;
 pub mod lent;
 mod line;
 mod memory;
-mod places;
+pub mod places;

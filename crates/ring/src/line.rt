@@ -1,5 +1,7 @@
 //! A carrier over places of memory.
 
+ghost use Rattle.std.specs.Prelude.{◌≡◌, ◌/◌, ◌≤◌, ⊤};
+
 use crate::answering::Answering;
 use crate::memory::Memory;
 use crate::places::Places;
@@ -8,19 +10,32 @@ use carrier::connection::Connection;
 use carrier::path::Path;
 use carrier::undone::Undone;
 use layout::fault::Fault;
+use std::alloc::AllocError;
 use values::address::Address;
 
 /// A carrier whose messages wait in places of memory.
 #[derive(Drop)]
-#[derive_where(Clone, Copy; M: Copy, A: Copy)]
 pub struct Line<M: Memory, A: Answering> {
     places: Places<M>,
     path: Path,
     answering: A,
+    ghost sized: { places.places ≡ M.size places.memory / 514 },
+}
+
+// By hand, as for `Places`.
+impl<M: Memory + Copy, A: Answering + Copy> Copy for Line<M, A> {}
+
+impl<M: Memory + Copy, A: Answering + Copy> Clone for Line<M, A> {
+    ghost is_clone = { λ l k. k ≡ l };
+
+    ghost is_infallible = { λ _. ⊤ };
+
+    fn clone(&self) -> Result<Self, AllocError> {
+        Ok(*self)
+    }
 }
 
 impl<M: Memory, A: Answering + Drop> Line<M, A> {
-    ghost use Rattle.std.specs.Prelude.{◌≡◌, ◌/◌, ◌≤◌};
     ghost use Rattle.carrier.specs.Carried.{fresh};
     ghost use Rattle.ring.specs.Meanings.{of_line};
 
@@ -57,7 +72,7 @@ impl<M: Memory, A: Answering> Carrier for Line<M, A> {
 
     ghost carried = { of_line A.answers };
 
-    ghost kept = { λ l. kept_carrying _ _ _ _ _ _ _ l.places.sound l.places.sized };
+    ghost kept = { λ l. kept_carrying _ _ _ _ _ _ _ l.places.sound l.sized };
 
     fn tunnel(&self) -> Option<Address> {
         self.path.gateway()

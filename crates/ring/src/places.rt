@@ -73,12 +73,11 @@ fn admit(waiting: usize, places: usize, octets: &[u8]) -> Result<(), Undone>
 // A queue in the memory that there is: there is no heap.
 #[derive(Drop)]
 pub struct Places<M: Memory> {
-    memory: M,
-    places: usize,
-    head: usize,
-    count: usize,
+    pub memory: M,
+    pub places: usize,
+    pub head: usize,
+    pub count: usize,
     ghost sound: { Sound (M.octets memory) places head count },
-    ghost sized: { places ≡ M.size memory / 514 },
     ghost addressable: { 514 * places < 2 ^ 64 },
 }
 
@@ -102,9 +101,10 @@ impl<M: Memory> Places<M> {
 
     /// Places in memory, a place to each 514 octets, in which nothing waits.
     // What `Ring::new` asks of its memory is handed down to here.
-    pub fn new(memory: M) -> Places<M>
+    pub(crate) fn new(memory: M) -> Places<M>
         requires { 514 ≤ M.size memory }
         ensures memory { result.memory ≡ memory }
+        ensures places { result.places ≡ M.size memory / 514 }
         ensures waiting { queued result ≡ [] }
     {
         let places = memory.octets().len() / PLACE;
@@ -125,7 +125,7 @@ impl<M: Memory> Places<M> {
 
     /// How many messages may wait at once.
     pub fn size(&self) -> usize
-        ensures { result ≡ M.size self.now.memory / 514 }
+        ensures { result ≡ self.now.places }
     {
         self.places
     }
@@ -134,7 +134,8 @@ impl<M: Memory> Places<M> {
     pub fn offer(&mut self, octets: &[u8]) -> Result<(), Undone>
         ensures name { M.name self.new.memory ≡ M.name self.old.memory }
         ensures size { M.size self.new.memory ≡ M.size self.old.memory }
-        ensures puts { Puts (queued self.old) (M.size self.old.memory / 514) octets.now result (queued self.new) }
+        ensures places { self.new.places ≡ self.old.places }
+        ensures puts { Puts (queued self.old) self.old.places octets.now result (queued self.new) }
     {
         admit(self.len(), self.places, octets)?;
         let at = PLACE * wrapped(self.head + self.count, self.places);
@@ -146,6 +147,7 @@ impl<M: Memory> Places<M> {
     /// Takes the first message out, to the front of memory of 512 octets or more, and says its length; 0 where none waits.
     pub fn take_into(&mut self, memory: &mut [u8]) -> Result<usize, Fault>
         ensures memory { self.new.memory ≡ self.old.memory }
+        ensures places { self.new.places ≡ self.old.places }
         ensures takes { TakesFrom (queued self.old) memory.old result (queued self.new) memory.new }
     {
         check_least(memory.len(), 512)?;
@@ -160,7 +162,7 @@ impl<M: Memory> Places<M> {
     }
 
     /// The memory, as it is.
-    pub fn into_memory(self) -> M
+    pub(crate) fn into_memory(self) -> M
         ensures { result ≡ self.memory }
     {
         let Places {

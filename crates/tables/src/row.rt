@@ -2,18 +2,18 @@
 
 ghost use Rattle.std.specs.Prelude.{◌≡◌, ℕ, List, Decides};
 ghost use Rattle.values.specs.Values.{coded as address_code, point};
-ghost use Rattle.values.proofs.Equal.{Decides-coded, Decides-point};
 
 use values::access_point::AccessPoint;
 use values::address::Address;
 
 /// What rows are told apart by.
-pub trait Key: Eq {
+pub trait Key {
     /// The octets that a key stands for.
     ghost code: { Self → List ℕ };
 
-    /// Two keys are equal where their octets are.
-    ghost decides: { (a b : Self) → Decides (Self.eq a b) (code a ≡ code b) };
+    /// Whether two keys are the same. A type may be a key by less than its `==` compares.
+    fn same(&self, other: &Self) -> bool
+        ensures { Decides result (code self.now ≡ code other.now) };
 }
 
 /// What stands in a list and has a key.
@@ -29,26 +29,47 @@ pub trait Row {
         ensures { Self.Key.Key.code result.now ≡ coded self.now };
 }
 
-// One for each kind of key: its octets, and why `==` decides them, are its own, and a shared one would be no plainer.
 impl Key for AccessPoint {
     ghost code = { point };
 
-    ghost decides = { Decides-point };
+    fn same(&self, other: &AccessPoint) -> bool {
+        AccessPoint::eq(self, other)
+    }
+}
+
+/// In a list of access points, each is its own key.
+// Not one for every `Key`: a key may also be a row with another key.
+impl Row for AccessPoint {
+    type Key = AccessPoint;
+
+    ghost coded = { point };
+
+    fn key(&self) -> &AccessPoint {
+        self
+    }
 }
 
 impl Key for Address {
     ghost code = { address_code };
 
-    ghost decides = { Decides-coded };
+    // By kind: slices of octets are compared at once, which the derived `==` of arrays is not.
+    fn same(&self, other: &Address) -> bool {
+        match (self, other) {
+            (Address::V4(a), Address::V4(b)) => a[..] == b[..],
+            (Address::V6(a), Address::V6(b)) => a[..] == b[..],
+            (Address::Named(a), Address::Named(b)) => a == b,
+            _ => false,
+        }
+    }
 }
 
-/// In a list of keys, each is its own key.
-impl<K: Key> Row for K {
-    type Key = K;
+/// In a list of addresses, each is its own key.
+impl Row for Address {
+    type Key = Address;
 
-    ghost coded = { K.code };
+    ghost coded = { address_code };
 
-    fn key(&self) -> &K {
+    fn key(&self) -> &Address {
         self
     }
 }

@@ -1,7 +1,7 @@
 //! How long a timer may run.
 
 ghost use Rattle.std.specs.Prelude.{◌≡◌};
-ghost use Rattle.timers.specs.Limits.{checked};
+ghost use Rattle.timers.specs.Limits.{checked, startable};
 
 use std::error::Error;
 use std::fmt;
@@ -29,11 +29,18 @@ impl fmt::Display for TicksOutOfRange {
 
 impl Error for TicksOutOfRange {}
 
+/// Whether a timer can be started with so many ticks.
+pub fn can_start(ticks: u32) -> bool
+    ensures { result ≡ startable ticks }
+{
+    (1..=LONGEST).contains(&ticks)
+}
+
 /// Refuses ticks that a timer cannot be started with.
 pub fn check_ticks(ticks: u32) -> Result<(), TicksOutOfRange>
     ensures { result ≡ checked ticks }
 {
-    if (1..=LONGEST).contains(&ticks) {
+    if can_start(ticks) {
         Ok(())
     } else {
         Err(TicksOutOfRange { ticks })

@@ -5,8 +5,10 @@ ghost use Rattle.std.specs.Prelude.{◌≡◌};
 use carrier::acts::connect;
 use carrier::carrying::Carrier;
 use carrier::connection::Connection;
+use carrier::undone::Undone;
 use layout::fault::Fault;
 use ring::lent::Ring;
+use ring::places::Places;
 use slots::eight::Slots;
 use std::test::Fail;
 use tables::addresses::AddressList;
@@ -26,6 +28,11 @@ fn places_of(slots: &Slots) -> usize
     ensures { result ≡ 8 }
 {
     slots.places()
+}
+
+// How many places are free in a carrier of a kind that is not known: no more messages wait than there are places, as its questions promise.
+fn free_in(carrier: &dyn Carrier) -> usize {
+    carrier.places() - carrier.waiting()
 }
 
 // What a run showed.
@@ -107,6 +114,7 @@ fn a_ring_and_slots_of_eight_do_the_same(rt: HostRuntime) -> Result<(), Fail> {
     );
     let mut slots = Slots::new(AddressList::try_from([].as_slice())?);
     assert_eq!(rt; places_of(&slots), 8);
+    assert_eq!(rt; free_in(&slots), 8);
     assert_eq!(rt; drive(&mut ring)?, OF_EIGHT);
     assert_eq!(rt; drive(&mut slots)?, OF_EIGHT);
     let mut lent = &mut slots;
@@ -134,4 +142,24 @@ fn nothing_is_sent_where_nothing_answers(rt: HostRuntime) -> Result<(), Fail> {
     assert!(rt; ring.tunnel().is_none());
     assert_eq!(rt; drive(&mut slots)?.filled, 0);
     Ok(())
+}
+
+#[test]
+fn three_places_of_memory_for_eight(rt: HostRuntime) {
+    let mut memory = [0xEE; 4112];
+    let mut places: Places<&mut [u8]> = Places {
+        memory: &mut memory,
+        places: 3,
+        head: 0,
+        count: 0,
+    };
+    let put = [
+        places.offer(&[7; 4]),
+        places.offer(&[8; 512]),
+        places.offer(&[9; 5]),
+        places.offer(&[7; 4]),
+    ];
+    assert_eq!(rt; put, [Ok(()), Ok(()), Ok(()), Err(Undone::NoPlace)]);
+    assert_eq!(rt; places.len(), 3);
+    assert_eq!(rt; places.size(), 3);
 }

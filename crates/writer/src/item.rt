@@ -15,6 +15,7 @@ pub(crate) struct Item<'a> {
     ghost formed: { IsTrue (formed (identifier element) value.now) },
 }
 
+// Its methods are inlined into `OpenMessage::add`.
 impl<'a> Item<'a> {
     ghost use Rattle.std.specs.Prelude.{◌≡◌, ◌+◌, ◌≤◌, true, false, length, MatchResult};
     ghost use Rattle.layout.specs.Elements.{element_octets};
@@ -24,6 +25,7 @@ impl<'a> Item<'a> {
     ghost use Rattle.writer.specs.Octets.{over};
 
     /// The element with this identifier and value, which may be any octet and any value.
+    #[inline(always)]
     pub(crate) fn new(id: u8, value: &'a [u8]) -> Result<Item<'a>, Fault>
         ensures { MatchResult result (λ i. (formed id value.now ≡ true) × (octets_of i ≡ element_octets id value.now)) (λ f. (formed id value.now ≡ false) × Refuses 6 0 0 f) }
     {
@@ -34,6 +36,7 @@ impl<'a> Item<'a> {
     }
 
     /// How many octets it takes.
+    #[inline(always)]
     pub(crate) fn len(&self) -> usize
         ensures { result ≡ length (octets_of self.now) }
     {
@@ -42,6 +45,7 @@ impl<'a> Item<'a> {
     }
 
     /// Writes its octets over those of the memory from `at` on.
+    #[inline(always)]
     pub(crate) fn write(&self, memory: &mut [u8], at: usize)
         requires short { length (octets_of self.now) ≤ 512 }
         requires room { at + length (octets_of self.now) ≤ length memory.old }

@@ -35,6 +35,8 @@ fn write_indicator(memory: &mut [u8], len: usize)
 
 impl Page<'_> {
     // Puts an element behind what is written, if it ends within 512 octets.
+    // Inlined into `OpenMessage::add`.
+    #[inline(always)]
     fn put(&mut self, item: Item<'_>) -> Result<(), Fault>
         requires { Held self.old.memory.now self.old.len }
         ensures name { self.new.memory.ghost_name ≡ self.old.memory.ghost_name }
@@ -81,6 +83,8 @@ impl<'a> OpenMessage<'a> {
     }
 
     /// Adds an element behind those that stand there. Any octet and any value may be asked for.
+    // Inlined, with what it calls: where a caller knows identifier and length, the checks fold and a copy is no call.
+    #[inline(always)]
     pub fn add(&mut self, id: u8, value: &[u8]) -> Result<(), Fault>
         ensures name { self.new.page.memory.ghost_name ≡ self.old.page.memory.ghost_name }
         ensures cases { MatchResult result (λ _. Added self.old id value.now self.new) (λ f. Refuses 6 0 0 f × Unfit self.old id value.now × Unchanged self.old self.new) }
