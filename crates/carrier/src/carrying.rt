@@ -49,7 +49,10 @@ pub trait Carrier {
         ensures answer { result ≡ stands (carried self.now) (coded gateway.now) }
         ensures exact { result ≡ true → (carried self.now).tunnel ≡ Some (coded gateway.now) }
     {
-        self.tunnel().is_some_and(|standing| standing == *gateway)
+        match self.tunnel() {
+            Some(standing) => standing == *gateway,
+            None => false,
+        }
     }
 
     /// Whether every place is taken.

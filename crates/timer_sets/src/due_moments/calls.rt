@@ -58,7 +58,8 @@ impl TimerSet for DueMoments {
         ensures leaves { of_moments self.new ≡ ticked (of_moments self.old) }
         ensures clock { clock_of self.new ≡ after (clock_of self.old) 1 }
     {
-        let expired = self.due.map_mut(|due| end_if_due(due, self.clock));
+        let clock = self.clock; // a copy, which no change of a moment can touch
+        let expired = self.due.map_mut(|due| end_if_due(due, clock));
         self.clock = self.clock.wrapping_add(1);
         expired
     }
